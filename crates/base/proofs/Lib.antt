@@ -1,0 +1,5 @@
+pub mod ListLaws
+pub mod PlaceLaws
+pub mod Tests
+pub mod NumberLaws
+pub mod PackedLaws

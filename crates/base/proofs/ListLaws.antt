@@ -1,0 +1,90 @@
+-- Laws of lists by index. Assumes nothing.
+use mathlib.Core.Path.{_≡_, refl, sym, ap, ap₂, _∙_, subst}
+use Prim.Native.Nat.{ℕ, zero, suc, _+_, _-_, _≤_, _<_}
+use native.Mathlib.Nat.{not-suc-le-zero, le-of-suc-le-suc, lt-of-not-le}
+use native.Mathlib.Decide.{decLe}
+use native.Mathlib.Omega.{arith}
+use mathlib.Core.Bool.{Bool, true, false}
+use mathlib.Core.List.{List, [], _∷_, _++_}
+use lib.ListN.{length, getD, length-append, List·getD-append, List·getD-eq-default}
+use lib.Seq.{getD-append-add}
+use Rattle.base.specs.Lists.{build, Below, All}
+
+-- Two numbers are in one order or the other.
+pub by-order {ℓ} : {X : Type ℓ} (a b : ℕ) → (a < b → X) → (b ≤ a → X) → X
+by-order a b less more = elim (decLe b a) [ yes h ↦ more h | no h ↦ less (lt-of-not-le h) ]
+
+-- A test is true or false.
+pub by-test {ℓ} : {X : Type ℓ} (test : Bool) → (test ≡ true → X) → (test ≡ false → X) → X
+by-test true yes′ no′ = yes′ refl
+by-test false yes′ no′ = no′ refl
+
+-- ---- build
+
+pub length-build {ℓ} : {A : Type ℓ} (n : ℕ) (f : ℕ → A) → length (build n f) ≡ n
+unfolding build
+length-build zero f = refl
+length-build (suc n) f = ap suc (length-build n (λ k. f (suc k)))
+
+pub getD-build {ℓ} : {A : Type ℓ} (n : ℕ) (f : ℕ → A) (i : ℕ) (d : A) → i < n → getD (build n f) i d ≡ f i
+unfolding build
+getD-build zero f i d h = absurd (not-suc-le-zero h)
+getD-build (suc n) f zero d h = refl
+getD-build (suc n) f (suc i) d h = getD-build n (λ k. f (suc k)) i d (le-of-suc-le-suc h)
+
+pub build-cong {ℓ} : {A : Type ℓ} (n : ℕ) (f g : ℕ → A) → ((k : ℕ) → k < n → f k ≡ g k) → build n f ≡ build n g
+unfolding build
+build-cong zero f g h = refl
+build-cong (suc n) f g h =
+    ap₂ _∷_ (h 0 (omega arith))
+    (build-cong n (λ k. f (suc k)) (λ k. g (suc k)) (λ k l. h (suc k) (omega arith)))
+
+pub build-append {ℓ} : {A : Type ℓ} (m n : ℕ) (f : ℕ → A)
+    → build (m + n) f ≡ build m f ++ build n (λ k. f (m + k))
+unfolding build
+build-append zero n f =
+    let e : 0 + n ≡ n = omega arith in
+    ap (λ (k : ℕ). build k f) e
+    ∙ build-cong n f (λ k. f (0 + k)) (λ k h. let z : k ≡ 0 + k = omega arith in ap f z)
+build-append (suc m) n f =
+    let e : suc m + n ≡ suc (m + n) = omega arith in
+    ap (λ (k : ℕ). build k f) e
+    ∙ ap (λ (rest : List _). f zero ∷ rest)
+    (build-append m n (λ k. f (suc k))
+    ∙ ap (λ (rest : List _). build m (λ k. f (suc k)) ++ rest)
+    (build-cong n (λ k. f (suc (m + k))) (λ k. f (suc m + k))
+    (λ k h. let z : suc (m + k) ≡ suc m + k = omega arith in ap f z)))
+
+-- ---- Below
+
+-- Past the end the default is 0, so a bound above 0 holds there too.
+pub below-at : {bound : ℕ} (list : List ℕ) → 0 < bound → Below bound list → (k : ℕ) → getD list k 0 < bound
+below-at {bound} list some h k =
+    by-order k (length list) (h .each k)
+    (λ past. subst (λ (x : ℕ). x < bound) (sym (List·getD-eq-default list 0 past)) some)
+
+pub below-nil : (bound : ℕ) → Below bound []
+below-nil bound = record { each = λ k h. absurd (not-suc-le-zero h) }
+
+pub below-cons : {bound : ℕ} (x : ℕ) (list : List ℕ) → x < bound → Below bound list → Below bound (x ∷ list)
+below-cons x list h more = record { each = λ k. elim k [ zero ↦ λ l. h | suc j ↦ λ l. more .each j (le-of-suc-le-suc l) ] }
+
+pub below-append : {bound : ℕ} (front back : List ℕ) → Below bound front → Below bound back → Below bound (front ++ back)
+below-append {bound} front back f b =
+    record {
+      each = λ k h.
+          by-order k (length front)
+          (λ l. subst (λ (x : ℕ). x < bound) (sym (List·getD-append front back 0 k l)) (f .each k l))
+          (λ g.
+          let e : k ≡ length front + (k - length front) = omega arith in
+          subst (λ (x : ℕ). x < bound)
+          (sym (ap (λ (m : ℕ). getD (front ++ back) m 0) e ∙ getD-append-add front back (k - length front) 0))
+          (b .each (k - length front) (omega (arith, length-append front back))));
+    }
+
+pub below-build : {bound : ℕ} (n : ℕ) (f : ℕ → ℕ) → ((k : ℕ) → f k < bound) → Below bound (build n f)
+below-build {bound} n f h =
+    record {
+      each = λ k l.
+          subst (λ (x : ℕ). x < bound) (sym (getD-build n f k 0 (subst (λ (m : ℕ). k < m) (length-build n f) l))) (h k);
+    }

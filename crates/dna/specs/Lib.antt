@@ -1,0 +1,10 @@
+pub mod Reference
+pub mod Varint16
+pub mod Sizes
+pub mod Record
+pub mod Alignment
+pub mod RecordFaults
+pub mod Letters
+pub mod Counts
+pub mod Division
+pub mod Sums

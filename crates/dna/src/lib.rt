@@ -1,0 +1,34 @@
+// The types that the decoder, the encoder and every walk over records share (01, Records). Their meaning is
+// given in specs/, which name none of them below the answers of the calls.
+
+// The strand that a read was aligned to.
+pub enum Strand {
+    Forward,
+    Reverse,
+}
+
+// Where an aligned read lies on the reference (01: a place): the position as 01 defines it, exact and never
+// wrapped; the strand; and the letters clipped at each end, 0 where the whole read is aligned.
+pub struct Placement {
+    pub position: u64,
+    pub strand: Strand,
+    pub left: u8,
+    pub right: u8,
+}
+
+// One record of the DNA section (01: each record is one of five kinds, and a placed one carries its own place).
+pub enum Record {
+    Perfect(Placement),
+    Global(Placement),
+    Local(Placement),
+    Raw,
+    Raw4,
+}
+
+// The counts of a block or of a file (01: counts of a block).
+pub struct Counts {
+    pub reads: u64,
+    pub letters: u64,
+    pub entries: u64,
+    pub differences: u64,
+}

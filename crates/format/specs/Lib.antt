@@ -1,0 +1,6 @@
+pub mod Header
+pub mod Sections
+pub mod HeaderFaults
+pub mod Lengths
+pub mod WellFormed
+pub mod Joined

@@ -1,0 +1,33 @@
+-- Well-formed blocks (01, The desk's material). No walk over bytes defines them.
+use Prim.Native.Nat.{ℕ}
+use mathlib.Core.Path.{_≡_}
+use mathlib.Core.List.{List}
+use lib.ListN.{length}
+use Rattle.base.specs.Lists.{AllBytes}
+use Rattle.base.specs.Faults.{NoneFits}
+use Rattle.dna.specs.Division.{Division, Divides}
+use Rattle.format.specs.Header.{headerOf}
+use Rattle.format.specs.Sections.{blockLength, sectionOf, dnaNumber, nNumber}
+use Rattle.format.specs.HeaderFaults.{headerFaults}
+use Rattle.format.specs.Lengths.{LengthsAre, DnaSizeRight, NSectionSized}
+
+-- A division of a block: the lengths of its reads, and the division of its DNA section.
+pub record BlockDivision : Type 0 where
+  pub lengths : List ℕ
+  pub division : Division
+
+-- The division meets the rules for the lengths that the header or size section gives.
+pub record DividesBlock (bases : ℕ) (block : List ℕ) (divided : BlockDivision) : Type 0 where
+  pub lengths-are : LengthsAre block (divided .lengths)
+  pub divides : Divides bases (divided .lengths) (sectionOf block nNumber) (sectionOf block dnaNumber) (divided .division)
+
+-- 01: a block is well-formed under a reference of so many bases. It is exactly its header and sections,
+-- earns none of 2 to 11, and some division of its DNA section meets the rules.
+pub record WellFormed (bases : ℕ) (block : List ℕ) : Type 0 where
+  pub bytes : AllBytes block
+  pub exact : length block ≡ blockLength (headerOf block)
+  pub noHeaderFault : NoneFits (headerFaults block)
+  pub divided : BlockDivision
+  pub divides : DividesBlock bases block divided
+  pub dnaSize : DnaSizeRight block (divided .lengths)
+  pub nSection : NSectionSized block
