@@ -30,6 +30,10 @@ pub neither-or : (s t : Bool) → s ≡ false → t ≡ false → s || t ≡ fal
 neither-or true t e f = e
 neither-or false t e f = f
 
+pub or-right : (s t : Bool) → t ≡ true → s || t ≡ true
+or-right true t e = refl
+or-right false t e = e
+
 pub not-true : (t : Bool) → not t ≡ true → t ≡ false
 not-true true e = sym e
 not-true false e = refl

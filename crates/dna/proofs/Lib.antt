@@ -1,1 +1,4 @@
 pub mod SumsHold
+pub mod OffsetLaws
+pub mod EntryLaws
+pub mod SizeLaws

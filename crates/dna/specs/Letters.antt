@@ -1,6 +1,6 @@
 -- The letters of a record, one at a time (01, Records): where each comes from, the first that fits, and
 -- what it is.
-use Prim.Native.Nat.{ℕ, _+_, _-_}
+use Prim.Native.Nat.{ℕ, suc, _+_, _-_}
 use mathlib.Core.Bool.{Bool, true, false, cond}
 use mathlib.Core.List.{List, [], map}
 use lib.ListN.{length, getD}
