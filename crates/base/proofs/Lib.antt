@@ -4,3 +4,4 @@ pub mod Tests
 pub mod NumberLaws
 pub mod PackedLaws
 pub mod GroupLaws
+pub mod ScanLaws

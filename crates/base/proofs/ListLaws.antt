@@ -88,3 +88,27 @@ below-build {bound} n f h =
       each = λ k l.
           subst (λ (x : ℕ). x < bound) (sym (getD-build n f k 0 (subst (λ (m : ℕ). k < m) (length-build n f) l))) (h k);
     }
+
+-- ---- All
+
+pub all-getD {ℓ} : {A : Type ℓ} (P : A → Type 0) (list : List A) (d : A) → All P list → (k : ℕ) → k < length list → P (getD list k d)
+all-getD P [] d h k l = absurd (not-suc-le-zero l)
+all-getD P (x ∷ xs) d h zero l = h .0
+all-getD P (x ∷ xs) d h (suc k) l = all-getD P xs d (h .1) k (le-of-suc-le-suc l)
+
+pub all-build {ℓ} : {A : Type ℓ} (P : A → Type 0) (n : ℕ) (f : ℕ → A) → ((k : ℕ) → k < n → P (f k)) → All P (build n f)
+unfolding build
+all-build P zero f h = tt
+all-build P (suc n) f h = (h 0 (omega arith), all-build P n (λ k. f (suc k)) (λ k l. h (suc k) (omega arith)))
+
+pub all-append {ℓ} : {A : Type ℓ} (P : A → Type 0) (front back : List A) → All P front → All P back → All P (front ++ back)
+all-append P [] back f b = b
+all-append P (x ∷ xs) back f b = (f .0, all-append P xs back (f .1) b)
+
+pub all-left {ℓ} : {A : Type ℓ} (P : A → Type 0) (front back : List A) → All P (front ++ back) → All P front
+all-left P [] back h = tt
+all-left P (x ∷ xs) back h = (h .0, all-left P xs back (h .1))
+
+pub all-right {ℓ} : {A : Type ℓ} (P : A → Type 0) (front back : List A) → All P (front ++ back) → All P back
+all-right P [] back h = h
+all-right P (x ∷ xs) back h = all-right P xs back (h .1)

@@ -1,9 +1,9 @@
 -- Tests and what they say. Assumes nothing.
 use mathlib.Core.Path.{_≡_, refl, sym, ap, _∙_}
 use Prim.Native.Nat.{ℕ, zero, suc, _+_, _≤_, _<_}
-use mathlib.Core.Bool.{Bool, true, false, _&&_, _||_, not, Bool·beq}
+use mathlib.Core.Bool.{Bool, true, false, _&&_, _||_, not, Bool·beq, or-assoc}
 use mathlib.Core.Logic.{_↔_}
-use mathlib.Core.List.{List, [], _∷_}
+use mathlib.Core.List.{List, [], _∷_, _++_}
 use lib.ListN.{length, getD}
 use lib.Dec.{leb, ltb, eqb}
 use borrow.Author.Tests.{ltb-true, lt-ltb}
@@ -21,6 +21,10 @@ and-both false t e = (cc, cc)
 pub both-and : (s t : Bool) → s ≡ true → t ≡ true → s && t ≡ true
 both-and true t e f = f
 both-and false t e f = e
+
+pub and-first : (s t : Bool) → s && t ≡ false → s ≡ true → t ≡ false
+and-first true t e h = e
+and-first false t e h = absurd-test (sym h)
 
 pub or-neither : (s t : Bool) → s || t ≡ false → (s ≡ false) × (t ≡ false)
 or-neither true t e = (e, absurd-test e)
@@ -70,3 +74,10 @@ test-below bound [] e = below-nil bound
 test-below bound (x ∷ xs) e =
     let both = and-both (ltb x bound) (belowTest bound xs) e in
     below-cons x xs (ltb-true x bound (both .0)) (test-below bound xs (both .1))
+
+-- Neither of two lists has an element of which the test holds.
+pub any-append {ℓ} : {A : Type ℓ} (test : A → Bool) (front back : List A) → any test (front ++ back) ≡ any test front || any test back
+unfolding any
+any-append test [] back = refl
+any-append test (x ∷ xs) back =
+    ap (λ (t : Bool). test x || t) (any-append test xs back) ∙ sym (or-assoc (test x) (any test xs) (any test back))

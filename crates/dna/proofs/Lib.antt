@@ -2,3 +2,11 @@ pub mod SumsHold
 pub mod OffsetLaws
 pub mod EntryLaws
 pub mod SizeLaws
+pub mod VarintLaws
+pub mod FieldLaws
+pub mod RecordFinds
+pub mod RecordFound
+pub mod WalkLaws
+pub mod WalkFinds
+pub mod WalkFound
+pub mod OneDivision

@@ -8,3 +8,5 @@ pub mod Letters
 pub mod Counts
 pub mod Division
 pub mod Sums
+pub mod RecordAt
+pub mod Walk

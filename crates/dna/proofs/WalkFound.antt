@@ -1,0 +1,170 @@
+-- What the walk finds is a division that meets the rules. Assumes nothing.
+use mathlib.Core.Path.{_≡_, refl, sym, ap, ap₂, _∙_, subst}
+use Prim.Native.Nat.{ℕ, zero, suc, _+_, _≤_, _<_}
+use native.Mathlib.Omega.{arith}
+use mathlib.Core.Bool.{Bool, true, false, not, _||_}
+use mathlib.Core.List.{List, [], _∷_, _++_, flatMap}
+use lib.ListN.{length, getD, drop, length-append}
+use lib.Dec.{ltb, eqb}
+use borrow.Author.Tests.{ltb-false, eqb-true}
+use Rattle.base.specs.Lists.{any, All, AllBytes}
+use Rattle.base.specs.Groups.{groupCount, inGroups}
+use Rattle.base.specs.Place.{At}
+use Rattle.base.proofs.ListLaws.{all-append}
+use Rattle.base.proofs.GroupLaws.{length-inGroups}
+use Rattle.base.proofs.PlaceLaws.{at-self, at-same, at-both, at-cons, at-nil, at-to}
+use Rattle.base.proofs.Tests.{or-neither, not-false}
+use Rattle.dna.specs.Record.{ReadContext, StoredRecord, recordBytes}
+use Rattle.dna.specs.Alignment.{positionAfter}
+use Rattle.dna.specs.Division.{
+  GroupFlags,
+  Piece,
+  Group,
+  Division,
+  Slot,
+  Read,
+  groupBytes,
+  divisionBytes,
+  contextOf,
+  groupSlots,
+  slots,
+  readsFrom,
+  readsOf,
+  groupBitStray,
+  ReadMeets,
+  GroupMeets,
+  GroupsMeet,
+  Divides,
+}
+use Rattle.dna.specs.RecordAt.{recordAt}
+use Rattle.dna.specs.Walk.{Walk, walked, lastPosition, readsAt, flagsAt, groupAt, groupsAt, sectionWalk}
+use Rattle.dna.proofs.RecordFound.{RecordFoundAt, record-found}
+use Rattle.dna.proofs.WalkLaws.{walked-same, inRead-parts, onward-parts, checkedRead-walked, readsFrom-append}
+
+piecesBytes : (pieces : List Piece) → List ℕ
+piecesBytes pieces = flatMap (λ piece. piece .bytes) pieces
+
+record ReadsFound (bases : ℕ) (flags : GroupFlags) (place previous : ℕ) (lengths list : List ℕ) (at : ℕ) (pieces : List Piece) (next : ℕ)
+    : Type 0 where
+  counted : length pieces ≡ length lengths
+  meet : All ReadMeets (readsFrom bases previous (groupSlots flags place lengths pieces))
+  stands : At list at (piecesBytes pieces)
+  ends : next ≡ at + length (piecesBytes pieces)
+
+reads-found : (bases : ℕ) (flags : GroupFlags) (read place previous : ℕ) (lengths : List ℕ) {list : List ℕ} (at : ℕ) {pieces : List Piece}
+    {next : ℕ} → AllBytes list → at ≤ length list → readsAt bases flags read place previous lengths list at ≡ walked pieces next
+    → ReadsFound bases flags place previous lengths list at pieces next
+unfolding readsAt piecesBytes flatMap groupSlots readsFrom
+reads-found bases flags read place previous [] {list} at {pieces} {next} bytes h e =
+    let same = walked-same e in
+    subst (λ (x : List Piece). ReadsFound bases flags place previous [] list at x next) (same .0)
+    (record { counted = refl; meet = tt; stands = at-nil h; ends = omega (arith, same .1) })
+reads-found bases flags read place previous (readLength ∷ lengths) {list} at {pieces} {next} bytes h e =
+    let context : ReadContext = contextOf bases flags place previous readLength in
+    let ih : (p m : ℕ) (ps : List Piece) (o : ℕ) → m ≤ length list
+    → readsAt bases flags (suc read) (suc place) p lengths list m ≡ walked ps o
+    → ReadsFound bases flags (suc place) p lengths list m ps o
+    = λ p m ps o. reads-found bases flags (suc read) (suc place) p lengths m bytes in
+    inRead-parts read (recordAt context list at) _ e (λ stored m e₁ e₂.
+    let f : RecordFoundAt context list at stored m = record-found context list at bytes e₁ in
+    let p : ℕ = positionAfter context (stored .fields) in
+    onward-parts (readsAt bases flags (suc read) (suc place) p lengths list m) _ e₂ (λ ps o e₃ e₄.
+    let more : ReadsFound bases flags (suc place) p lengths list m ps o = ih p m ps o (omega (arith, f .ends, f .stands .fits)) e₃ in
+    let same = walked-same e₄ in
+    subst (λ (x : List Piece). ReadsFound bases flags place previous (readLength ∷ lengths) list at x next) (same .0)
+    (record {
+      counted = ap suc (more .counted);
+      meet = (record { bytes = refl; fits = f .fits; noFault = f .none }, more .meet);
+      stands = at-both (recordBytes context stored) (piecesBytes ps) (f .stands) (rw (f .ends) at (more .stands));
+      ends = omega (arith, same .1, more .ends, f .ends, length-append (recordBytes context stored) (piecesBytes ps));
+    })))
+
+record GroupFound (bases previous : ℕ) (lengths : List ℕ) (nByte : ℕ) (list : List ℕ) (at : ℕ) (group : Group) (next : ℕ) : Type 0 where
+  meets : GroupMeets lengths nByte group
+  reads : All ReadMeets (readsFrom bases previous (groupSlots (group .flags) 0 lengths (group .pieces)))
+  stands : At list at (groupBytes group)
+  ends : next ≡ at + length (groupBytes group)
+
+group-found : (bases read previous : ℕ) (lengths : List ℕ) (nByte : ℕ) {list : List ℕ} (at : ℕ) {group : Group} {next : ℕ} → AllBytes list
+    → groupAt bases read previous lengths nByte list at ≡ walked group next → GroupFound bases previous lengths nByte list at group next
+unfolding groupAt groupBytes piecesBytes flagsAt any
+group-found bases read previous lengths nByte {list} at {group} {next} bytes e =
+    let flags : GroupFlags = flagsAt list at in
+    let parts = checkedRead-walked read _ _ e in
+    let first : (ltb (length list) (at + 4) ≡ false)
+    × (groupBitStray (length lengths) flags || (not (eqb (flags .withN) nByte) || false) ≡ false) = or-neither _ _ (parts .0) in
+    let second : (groupBitStray (length lengths) flags ≡ false) × (not (eqb (flags .withN) nByte) || false ≡ false) = or-neither _ _ (first .1) in
+    let third : (not (eqb (flags .withN) nByte) ≡ false) × (false ≡ false) = or-neither _ _ (second .1) in
+    let fits : at + 4 ≤ length list = ltb-false (length list) (at + 4) (first .0) in
+    onward-parts (readsAt bases flags read 0 previous lengths list (at + 4)) _ (parts .1) (λ pieces m e₁ e₂.
+    let f : ReadsFound bases flags 0 previous lengths list (at + 4) pieces m = reads-found bases flags read 0 previous lengths (at + 4) bytes fits e₁ in
+    let same = walked-same e₂ in
+    subst (λ (x : Group). GroupFound bases previous lengths nByte list at x next) (same .0)
+    (record {
+      meets = record {
+        reads = f .counted;
+        noStrayBit = second .0;
+        withN = eqb-true (flags .withN) nByte (not-false (eqb (flags .withN) nByte) (third .0));
+      };
+      reads = f .meet;
+      stands =
+          at-cons _ refl (omega arith)
+          (at-cons _ refl (omega arith)
+          (at-to (at + 2) _ (omega arith) (at-cons _ refl (omega arith)
+          (at-to (at + 3) _ (omega arith) (at-cons _ refl (omega arith)
+          (at-to (at + 4) _ (omega arith) (f .stands)))))));
+      ends = omega (arith, same .1, f .ends);
+    }))
+
+record GroupsFound (bases previous : ℕ) (lengths : List (List ℕ)) (nSection list : List ℕ) (at : ℕ) (division : Division) (next : ℕ) : Type 0 where
+  meet : GroupsMeet lengths nSection division
+  reads : All ReadMeets (readsFrom bases previous (slots lengths division))
+  stands : At list at (divisionBytes division)
+  ends : next ≡ at + length (divisionBytes division)
+
+groups-found : (bases read previous : ℕ) (lengths : List (List ℕ)) (nSection : List ℕ) {list : List ℕ} (at : ℕ) {division : Division} {next : ℕ}
+    → AllBytes list → length nSection ≡ length lengths → at ≤ length list
+    → groupsAt bases read previous lengths nSection list at ≡ walked division next
+    → GroupsFound bases previous lengths nSection list at division next
+unfolding groupsAt divisionBytes flatMap slots readsFrom
+groups-found bases read previous [] [] {list} at {division} {next} bytes n h e =
+    let same = walked-same e in
+    subst (λ (x : Division). GroupsFound bases previous [] [] list at x next) (same .0)
+    (record { meet = tt; reads = tt; stands = at-nil h; ends = omega (arith, same .1) })
+groups-found bases read previous [] (nByte ∷ nSection) at bytes n h e = absurd (omega arith)
+groups-found bases read previous (ours ∷ lengths) [] at bytes n h e = absurd (omega arith)
+groups-found bases read previous (ours ∷ lengths) (nByte ∷ nSection) {list} at {division} {next} bytes n h e =
+    let ih : (p m : ℕ) (gs : Division) (o : ℕ) → m ≤ length list
+    → groupsAt bases (read + length ours) p lengths nSection list m ≡ walked gs o
+    → GroupsFound bases p lengths nSection list m gs o
+    = λ p m gs o. groups-found bases (read + length ours) p lengths nSection m bytes (omega arith) in
+    onward-parts (groupAt bases read previous ours nByte list at) _ e (λ group m e₁ e₂.
+    let f : GroupFound bases previous ours nByte list at group m = group-found bases read previous ours nByte at bytes e₁ in
+    let here : List Slot = groupSlots (group .flags) 0 ours (group .pieces) in
+    let p : ℕ = lastPosition bases previous here in
+    onward-parts (groupsAt bases (read + length ours) p lengths nSection list m) _ e₂ (λ gs o e₃ e₄.
+    let more : GroupsFound bases p lengths nSection list m gs o = ih p m gs o (omega (arith, f .ends, f .stands .fits)) e₃ in
+    let same = walked-same e₄ in
+    subst (λ (x : Division). GroupsFound bases previous (ours ∷ lengths) (nByte ∷ nSection) list at x next) (same .0)
+    (record {
+      meet = (f .meets, more .meet);
+      reads =
+          subst (λ (reads : List Read). All ReadMeets reads) (sym (readsFrom-append bases previous here (slots lengths gs)))
+          (all-append ReadMeets (readsFrom bases previous here) _ (f .reads) (more .reads));
+      stands = at-both (groupBytes group) (divisionBytes gs) (f .stands) (rw (f .ends) at (more .stands));
+      ends = omega (arith, same .1, more .ends, f .ends, length-append (groupBytes group) (divisionBytes gs));
+    })))
+
+-- A walk that ends at the section's end found a division that meets the rules.
+pub walk-divides : (bases : ℕ) (lengths nSection dna : List ℕ) (division : Division) → AllBytes dna
+    → length nSection ≡ groupCount (length lengths) → sectionWalk bases lengths nSection dna ≡ walked division (length dna)
+    → Divides bases lengths nSection dna division
+unfolding sectionWalk readsOf
+walk-divides bases lengths nSection dna division bytes n e =
+    let f : GroupsFound bases 0 (inGroups lengths) nSection dna 0 division (length dna)
+    = groups-found bases 0 0 (inGroups lengths) nSection 0 bytes (n ∙ sym (length-inGroups lengths)) (omega arith) e in
+    record {
+      bytes = at-same (divisionBytes division) dna (omega (arith, f .ends)) (f .stands) (at-self dna);
+      groups = f .meet;
+      records = f .reads;
+    }
