@@ -20,6 +20,11 @@ leBytes (suc width) number = number % 256 ∷ leBytes width (number / 256)
 unfoldable pub signed : (bits number : ℕ) → ℤ
 signed bits number = cond (ltb number (2 ^ (bits - 1))) (pos number) (negsuc (2 ^ bits - 1 - number))
 
+-- A signed number as a count: 0 where it is negative, which is refused where the count is used.
+unfoldable pub nonNegative : (number : ℤ) → ℕ
+nonNegative (pos n) = n
+nonNegative (negsuc n) = 0
+
 -- The signed number of 32 bits.
 abbrev pub int32 : (number : ℕ) → ℤ
 int32 number = signed 32 number

@@ -1,4 +1,5 @@
 pub mod SumsHold
+pub mod SumsAnsweredHold
 pub mod OffsetLaws
 pub mod EntryLaws
 pub mod SizeLaws

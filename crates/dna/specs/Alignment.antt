@@ -41,7 +41,7 @@ entriesOf (local field entries left right clipped) = entries
 entriesOf (raw letters) = []
 entriesOf (raw4 letters) = []
 
--- The letters clipped before the aligned part, and after it.
+-- The letters clipped before the aligned part.
 unfoldable pub leftOf : (fields : RecordFields) → ℕ
 leftOf (perfect field) = 0
 leftOf (global field entries) = 0
@@ -49,6 +49,7 @@ leftOf (local field entries left right clipped) = left
 leftOf (raw letters) = 0
 leftOf (raw4 letters) = 0
 
+-- The letters clipped after it.
 unfoldable pub rightOf : (fields : RecordFields) → ℕ
 rightOf (perfect field) = 0
 rightOf (global field entries) = 0
@@ -56,7 +57,7 @@ rightOf (local field entries left right clipped) = right
 rightOf (raw letters) = 0
 rightOf (raw4 letters) = 0
 
--- How many letters are aligned.
+-- How many letters are aligned; 0 where the clips exceed the read, which 16 refuses.
 unfoldable pub alignedLength : (context : ReadContext) (fields : RecordFields) → ℕ
 alignedLength context fields = context .readLength - (leftOf fields + rightOf fields)
 
@@ -68,7 +69,7 @@ position context fields = cond (context .incremental) (context .previousPosition
 unfoldable pub positionAfter : (context : ReadContext) (fields : RecordFields) → ℕ
 positionAfter context fields = cond (isAligned fields) (position context fields) (context .previousPosition)
 
--- The lowest reference index of the aligned stretch: the position, for both strands.
+-- The lowest reference index of the aligned stretch (01: its position), for both strands and every length.
 unfoldable pub leftmost : (forward : Bool) (aligned position : ℕ) → ℕ
 leftmost forward aligned position = position
 

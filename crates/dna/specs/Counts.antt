@@ -9,6 +9,7 @@ use Rattle.dna.specs.Reference.{strandBase}
 use Rattle.dna.specs.Record.{ReadContext, Entry, RecordFields, StoredRecord}
 use Rattle.dna.specs.Alignment.{entriesOf, leftOf, referenceIndex, entryPlaces, nPositions}
 
+-- 01: the counts of a block, or of a read.
 pub record Counted : Type 0 where
   pub reads : ℕ
   pub letters : ℕ

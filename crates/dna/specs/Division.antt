@@ -23,11 +23,12 @@ pub record GroupFlags : Type 0 where
   pub withN : ℕ
   pub incremental : ℕ
 
--- One cut: the bytes of a record, and its kind and fields.
+-- What lies between two cuts: the bytes of a record, and its kind and fields.
 pub record Piece : Type 0 where
   pub bytes : List ℕ
   pub stored : StoredRecord
 
+-- A group: its bytes, and a piece for each of its reads.
 pub record Group : Type 0 where
   pub flags : GroupFlags
   pub pieces : List Piece
@@ -42,6 +43,7 @@ SameDivision one other = one ≡ other
 
 -- ---- The bytes of a division
 
+-- The bytes of a group: its four, then its records.
 unfoldable pub groupBytes : (group : Group) → List ℕ
 groupBytes group =
     group .flags .perfect
@@ -50,6 +52,7 @@ groupBytes group =
     ∷ group .flags .incremental
     ∷ flatMap (λ piece. piece .bytes) (group .pieces)
 
+-- The bytes of a division: its groups in order.
 unfoldable pub divisionBytes : (division : Division) → List ℕ
 divisionBytes division = flatMap groupBytes division
 
@@ -118,10 +121,11 @@ pub record ReadMeets (read : Read) : Type 0 where
   pub fits : RecordFits (read .context) (read .piece .stored)
   pub noFault : NoneFits (recordFaults (read .context) (read .piece .stored))
 
--- 13: a bit past the last of so many reads, in one group byte and in any of the four.
+-- 13: a bit past the last of so many reads in a group byte.
 unfoldable pub byteBitStray : (count byte : ℕ) → Bool
 byteBitStray count byte = not (eqb (byte % 2 ^ (8 - count)) 0)
 
+-- 13: such a bit in any of the four.
 unfoldable pub groupBitStray : (count : ℕ) (flags : GroupFlags) → Bool
 groupBitStray count flags =
     byteBitStray count (flags .perfect)

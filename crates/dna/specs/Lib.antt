@@ -10,3 +10,4 @@ pub mod Division
 pub mod Sums
 pub mod RecordAt
 pub mod Walk
+pub mod SumsAnswered

@@ -11,7 +11,8 @@ use Rattle.base.specs.Packed.{pack, packedLength}
 use Rattle.dna.specs.Varint16.{varint16Bytes}
 
 -- What is known of a read before its record: its length, the size of the reference, the position of the
--- nearest earlier read of the block that has one (0 where there is none), and its bit of each group byte.
+-- nearest earlier read of the block that has one (0 where there is none), and its bit of each group byte:
+-- Perfect, Forward, with-N, and pos_t as `incremental`.
 pub record ReadContext : Type 0 where
   pub readLength : ℕ
   pub referenceBases : ℕ
@@ -21,7 +22,7 @@ pub record ReadContext : Type 0 where
   pub withN : Bool
   pub incremental : Bool
 
--- An entry: an offset from the entry before, and a base.
+-- 01: an entry: an offset from the entry before, and a letter's code.
 pub record Entry : Type 0 where
   pub offset : ℕ
   pub code : ℕ
@@ -54,6 +55,7 @@ fieldWidth context = cond (context .incremental) 2 4
 unfoldable pub entryByte : (entry : Entry) → ℕ
 entryByte entry = entry .offset * 4 + entry .code
 
+-- Packed letters start in the high bits; the padding fills the last byte.
 unfoldable pub packedBytes : (base per : ℕ) (packed : PackedCodes) → List ℕ
 packedBytes base per packed = pack base per (packed .codes ++ packed .padding)
 
@@ -90,6 +92,7 @@ hasNList context (raw4 letters) = false
 unfoldable pub nListBytes : (offsets : List ℕ) → List ℕ
 nListBytes offsets = length offsets ∷ flatMap varint16Bytes offsets
 
+-- The bytes of a record: its fields, then its N list where it has one.
 unfoldable pub recordBytes : (context : ReadContext) (stored : StoredRecord) → List ℕ
 recordBytes context stored =
     fieldsBytes context (stored .fields)
@@ -109,6 +112,7 @@ pub record PackedFits (base per count : ℕ) (packed : PackedCodes) : Type 0 whe
   pub counted : length (packed .codes) ≡ count
   pub filled : length (packed .codes) + length (packed .padding) ≡ packedLength per count * per
 
+-- The ranges of each kind: the perfect bit, a position as wide as it is stored, a count of five bits.
 pub record PerfectFits (context : ReadContext) (field : ℕ) : Type 0 where
   pub kind : context .perfectBit ≡ true
   pub field-fits : field < 256 ^ fieldWidth context
@@ -147,6 +151,7 @@ abbrev pub NListFits : (stored : Bool) (offsets : List ℕ) → Type 0
 NListFits true offsets = length offsets < 256
 NListFits false offsets = offsets ≡ []
 
+-- The ranges of a whole record.
 pub record RecordFits (context : ReadContext) (stored : StoredRecord) : Type 0 where
   pub fields : FieldsFit context (stored .fields)
   pub nList : NListFits (hasNList context (stored .fields)) (stored .nOffsets)

@@ -31,7 +31,7 @@ use Rattle.dna.specs.Alignment.{
   nPositions,
 }
 
--- The codes of a raw4 record, and the padding of any; none where the kind has none.
+-- The codes of a raw4 record; none in any other.
 unfoldable pub raw4Codes : (fields : RecordFields) → List ℕ
 raw4Codes (perfect field) = []
 raw4Codes (global field entries) = []
@@ -39,6 +39,7 @@ raw4Codes (local field entries left right clipped) = []
 raw4Codes (raw letters) = []
 raw4Codes (raw4 letters) = letters .codes
 
+-- The padding of a record; none where the kind has no packed letters.
 unfoldable pub paddingOf : (fields : RecordFields) → List ℕ
 paddingOf (perfect field) = []
 paddingOf (global field entries) = []
@@ -50,7 +51,8 @@ paddingOf (raw4 letters) = letters .padding
 unfoldable pub rawBitStray : (context : ReadContext) (fields : RecordFields) → Bool
 rawBitStray context fields = not (isAligned fields) && (context .forward || context .incremental)
 
--- 14: a flag byte with two kinds, a global one that counts no entry, or a raw kind that counts any.
+-- 14: a flag byte with two kinds, a global one that counts no entry, or a raw kind that counts any. The flag
+-- byte of a record's fields can only be the second.
 unfoldable pub recordFlagInvalid : (flag : ℕ) → Bool
 recordFlagInvalid flag =
     (bit flag 5 && bit flag 6)
@@ -59,7 +61,7 @@ recordFlagInvalid flag =
     || ((bit flag 5 && eqb (flag / 8) 0)
     || ((bit flag 6 || bit flag 7) && ltb 0 (flag / 8)))))
 
--- 15: the stretch is not inside the reference.
+-- 15: the aligned stretch is not inside the reference.
 unfoldable pub spanOutside : (context : ReadContext) (fields : RecordFields) → Bool
 spanOutside context fields =
     isAligned fields
@@ -74,11 +76,12 @@ clipsInvalid context (local field entries left right clipped) =
 clipsInvalid context (raw letters) = false
 clipsInvalid context (raw4 letters) = false
 
--- A later offset of 0, or a landing outside: what entries and N positions have in common.
+-- A later offset of 0 (entries and N positions alike).
 unfoldable pub laterZero : (offsets : List ℕ) → Bool
 laterZero [] = false
 laterZero (first ∷ later) = member 0 later
 
+-- A landing outside.
 unfoldable pub anyOutside : (bound : ℕ) (places : List ℕ) → Bool
 anyOutside bound places = any (λ place. leb bound place) places
 
@@ -104,16 +107,17 @@ raw4BitWrong context (local field entries left right clipped) = false
 raw4BitWrong context (raw letters) = false
 raw4BitWrong context (raw4 letters) = not (Bool·beq (context .withN) (member 4 (letters .codes)))
 
--- 20: an N list has 1 to 31 positions; later offsets are at least 1, and all are inside the read.
+-- 20: an N list has 1 to 31 positions.
 unfoldable pub nCountInvalid : (count : ℕ) → Bool
 nCountInvalid count = eqb count 0 || ltb 31 count
 
+-- 20: the N list's count is wrong, a later offset is 0, or a position is outside the read.
 unfoldable pub nListInvalid : (context : ReadContext) (offsets : List ℕ) → Bool
 nListInvalid context offsets =
     nCountInvalid (length offsets)
     || (laterZero offsets || anyOutside (context .readLength) (nPositions offsets))
 
--- The faults of a record up to its N list, in 01's order.
+-- The faults of a record up to its N list, in 01's order; raw4's bit is judged last.
 unfoldable pub fieldFaults : (context : ReadContext) (fields : RecordFields) → List Fault
 fieldFaults context fields =
     fault 13 (rawBitStray context fields)

@@ -18,7 +18,7 @@ unfoldable pub referenceSizeWrong : (bases : ℕ) (reference : List ℕ) → Boo
 referenceSizeWrong bases reference =
     ltb maxReferenceBases bases || not (eqb (length reference) ((bases + 3) / 4))
 
--- The bytes are those of a reference of so many bases. Bits past the last base are ignored.
+-- 01: the reference; `bases` is its G. The bytes are those of so many bases; bits past the last are ignored.
 pub record ReferenceFits (bases : ℕ) (reference : List ℕ) : Type 0 where
   pub fits : referenceSizeWrong bases reference ≡ false
 

@@ -23,11 +23,13 @@ pub data StoredSize : Type 0 where
   -- Neither: words of 16 bits.
   inWords : (size : ℕ) → StoredSize
 
+-- Whether the same bit is set.
 unfoldable pub isSame : (stored : StoredSize) → Bool
 isSame same = true
 isSame (inByte size) = false
 isSame (inWords size) = false
 
+-- Whether the byte-size bit is set.
 unfoldable pub isInByte : (stored : StoredSize) → Bool
 isInByte same = false
 isInByte (inByte size) = true

@@ -2,11 +2,12 @@
 -- reference is ACGTACGTTGCA, bytes 1B 1B E4. The proof, by computation, is proofs/SumsHold.antt.
 use Prim.Native.Nat.{ℕ}
 use mathlib.Core.Path.{_≡_}
-use mathlib.Core.Bool.{cond}
+use mathlib.Core.Bool.{true, false, cond}
 use mathlib.Core.List.{List, [], _∷_}
 use lib.ListN.{getD, drop}
 use Rattle.base.specs.Lists.{All}
 use Rattle.base.specs.Faults.{Fault}
+use Rattle.dna.specs.Reference.{ReferenceFits, stretchLetters}
 use Rattle.dna.specs.Sizes.{SizesStored}
 use Rattle.dna.specs.Record.{
   Entry,
@@ -26,7 +27,9 @@ use Rattle.dna.specs.Counts.{Counted}
 use Rattle.dna.specs.Division.{
   GroupFlags,
   Division,
+  divisionBytes,
   contextOf,
+  groupBitStray,
   Divides,
   divisionLetters,
   divisionCounts,
@@ -102,6 +105,7 @@ unfoldable pub fitting : (faults : List Fault) → List ℕ
 fitting [] = []
 fitting (f ∷ fs) = cond (f .fits) (f .number ∷ fitting fs) (fitting fs)
 
+-- The group bytes at the front of a row.
 unfoldable pub flagsOf : (bytes : List ℕ) → GroupFlags
 flagsOf bytes =
     record {
@@ -117,7 +121,7 @@ oneRead bytes stored =
     record { flags = flagsOf bytes; pieces = record { bytes = drop 4 bytes; stored = stored } ∷ [] } ∷ []
 
 -- An accepted row: the division with its fields meets the rules, and gives these letters and counts. A
--- refused one: its fields have its bytes, and exactly one fault fits.
+-- refused one: its group bytes are right, its fields have its bytes, and exactly one fault fits.
 abbrev pub RecordRight : (readLength : ℕ) (bytes : List ℕ) (stored : StoredRecord) (gives : Gives) → Type 0
 RecordRight readLength bytes stored (letters given entries differences) =
     Divides 12 (readLength ∷ []) (getD bytes 2 0 ∷ []) bytes (oneRead bytes stored)
@@ -125,15 +129,22 @@ RecordRight readLength bytes stored (letters given entries differences) =
     × (divisionCounts reference 12 (readLength ∷ []) (oneRead bytes stored)
     ≡ record { reads = 1; letters = readLength; entries = entries; differences = differences })
 RecordRight readLength bytes stored (refused number) =
-    (recordBytes (contextOf 12 (flagsOf bytes) 0 0 readLength) stored ≡ drop 4 bytes)
+    (divisionBytes (oneRead bytes stored) ≡ bytes)
+    × (groupBitStray 1 (flagsOf bytes) ≡ false)
+    × (recordBytes (contextOf 12 (flagsOf bytes) 0 0 readLength) stored ≡ drop 4 bytes)
     × RecordFits (contextOf 12 (flagsOf bytes) 0 0 readLength) stored
     × (fitting (recordFaults (contextOf 12 (flagsOf bytes) 0 0 readLength) stored) ≡ number ∷ [])
 
+-- What a row claims.
 abbrev pub RowRight : (row : Row) → Type 0
 RowRight (recordRow readLength bytes fields nOffsets gives) =
     RecordRight readLength bytes (record { fields = fields; nOffsets = nOffsets }) gives
 RowRight (sizesRow lengths section) = SizesStored section lengths
 
--- Every row is right.
+-- The reference is the one that 01 prints, and every row is right.
 abbrev pub TableRight : Type 0
-TableRight = All RowRight rows
+TableRight =
+    ReferenceFits 12 reference
+    × (stretchLetters reference true 0 12
+    ≡ A ∷ C ∷ G ∷ T ∷ A ∷ C ∷ G ∷ T ∷ T ∷ G ∷ C ∷ A ∷ [])
+    × All RowRight rows

@@ -4,9 +4,9 @@ use Prim.Native.Nat.{ℕ, _/_, _%_}
 use mathlib.Core.Bool.{Bool}
 use mathlib.Core.List.{List, [], _∷_}
 use lib.ListN.{getD}
-use lib.IntN.{ℤ, natAbs}
+use lib.IntN.{ℤ}
 use lib.Dec.{eqb}
-use Rattle.base.specs.Numbers.{le, int32}
+use Rattle.base.specs.Numbers.{le, int32, nonNegative}
 
 -- The length of the table of contents.
 abbrev pub tableLength : ℕ
@@ -45,7 +45,8 @@ pub record Header : Type 0 where
   pub «checksum_ref» : ℕ
   pub «checksum_comp» : ℕ
 
--- The header of an input: each field at its offset.
+-- The header of the opened block (01: one whose outer entropy coding another tool has removed) at an
+-- input's start: each field at its offset.
 unfoldable pub headerOf : (input : List ℕ) → Header
 headerOf input =
     record {
@@ -89,13 +90,14 @@ flagSet flags flag = eqb (flags / flag % 2) 1
 abbrev pub sameLengthFlag : ℕ
 sameLengthFlag = 0x1
 
--- Flag 0x40: the DNA section holds plain letters; flag 0x80: the sections are encrypted.
+-- Flag 0x40: the DNA section holds plain letters (000, fallback mode).
 abbrev pub fallbackFlag : ℕ
 fallbackFlag = 0x40
 
+-- Flag 0x80: the sections are encrypted (000).
 abbrev pub encryptedFlag : ℕ
 encryptedFlag = 0x80
 
--- The number of reads, where it is not negative.
+-- The number of reads; a negative n_reads is refused with 7.
 unfoldable pub readCount : (header : Header) → ℕ
-readCount header = natAbs (header .«n_reads»)
+readCount header = nonNegative (header .«n_reads»)

@@ -17,7 +17,8 @@ Joined blocks file = flatten blocks ≡ file
 abbrev pub AllWellFormed : (bases : ℕ) (blocks : List (List ℕ)) → Type 0
 AllWellFormed bases blocks = All (WellFormed bases) blocks
 
--- 01: a file that is joined from well-formed blocks is cut where a block ends.
+-- 01: a joined file is cut where a block ends. The blocks are well-formed ones: any other list of parts would
+-- make every place a cut.
 pub record CutAt (bases : ℕ) (file : List ℕ) (place : ℕ) : Type 0 where
   pub before : List (List ℕ)
   pub block : List ℕ
@@ -34,10 +35,11 @@ DivideBlocks bases (block ∷ blocks) [] = ⊥
 DivideBlocks bases (block ∷ blocks) (first ∷ divided) =
     DividesBlock bases block first × DivideBlocks bases blocks divided
 
--- The reads of a block and its counts, by a division of it.
+-- The reads of a block, by a division of it.
 unfoldable pub blockReads : (reference : List ℕ) (bases : ℕ) (divided : BlockDivision) → List (List ℕ)
 blockReads reference bases divided = divisionLetters reference bases (divided .lengths) (divided .division)
 
+-- The counts of a block, by a division of it.
 unfoldable pub blockCounts : (reference : List ℕ) (bases : ℕ) (divided : BlockDivision) → Counted
 blockCounts reference bases divided = divisionCounts reference bases (divided .lengths) (divided .division)
 
@@ -45,6 +47,6 @@ blockCounts reference bases divided = divisionCounts reference bases (divided .l
 unfoldable pub fileReads : (reference : List ℕ) (bases : ℕ) (divided : List BlockDivision) → List (List ℕ)
 fileReads reference bases divided = flatMap (blockReads reference bases) divided
 
--- The counts of a file: sums over its blocks.
+-- The counts of a file: exact sums over its blocks; the answer takes each modulo 2 ^ 64.
 unfoldable pub fileCounts : (reference : List ℕ) (bases : ℕ) (divided : List BlockDivision) → Counted
 fileCounts reference bases divided = sumCounts (map (blockCounts reference bases) divided)

@@ -1,9 +1,10 @@
--- The nine sections (01, The desk's material: bodies follow in the order of their length fields).
+-- The nine sections, 01's bodies (01, The desk's material: they follow in the order of their length fields;
+-- each length counts opened bytes). Read are those of DNA, sizes and N; all others are carried unread.
 use Prim.Native.Nat.{ℕ, _+_}
 use mathlib.Core.List.{List, [], _∷_}
 use lib.ListN.{getD, take}
-use lib.IntN.{natAbs}
 use Rattle.base.specs.Lists.{part, total}
+use Rattle.base.specs.Numbers.{nonNegative}
 use Rattle.format.specs.Header.{Header, headerOf}
 
 -- The lengths of the nine sections, 0 to 8.
@@ -20,6 +21,7 @@ sectionLengths header =
     ∷ header .«l_m3»
     ∷ []
 
+-- The numbers of the DNA, size and N sections.
 abbrev pub dnaNumber : ℕ
 dnaNumber = 0
 
@@ -31,7 +33,7 @@ nNumber = 5
 
 -- Where section `number` starts: after the header and the sections before it.
 unfoldable pub sectionStart : (header : Header) (number : ℕ) → ℕ
-sectionStart header number = natAbs (header .«l_header») + total (take number (sectionLengths header))
+sectionStart header number = nonNegative (header .«l_header») + total (take number (sectionLengths header))
 
 -- How many bytes section `number` has; none above 8.
 unfoldable pub sectionLength : (header : Header) (number : ℕ) → ℕ
@@ -41,6 +43,7 @@ sectionLength header number = getD (sectionLengths header) number 0
 unfoldable pub sectionOf : (input : List ℕ) (number : ℕ) → List ℕ
 sectionOf input number = part input (sectionStart (headerOf input) number) (sectionLength (headerOf input) number)
 
--- The length of a block: its header and its sections. The sum is exact.
+-- The length of a block: its header and its sections. The sum is exact. A negative l_header is refused
+-- with 5.
 unfoldable pub blockLength : (header : Header) → ℕ
-blockLength header = natAbs (header .«l_header») + total (sectionLengths header)
+blockLength header = nonNegative (header .«l_header») + total (sectionLengths header)

@@ -9,9 +9,9 @@ use Rattle.dna.specs.Division.{Division, Divides}
 use Rattle.format.specs.Header.{headerOf}
 use Rattle.format.specs.Sections.{blockLength, sectionOf, dnaNumber, nNumber}
 use Rattle.format.specs.HeaderFaults.{headerFaults}
-use Rattle.format.specs.Lengths.{LengthsAre, DnaSizeRight, NSectionSized}
+use Rattle.format.specs.Lengths.{LengthsAre, lengthFaults}
 
--- A division of a block: the lengths of its reads, and the division of its DNA section.
+-- The lengths of a block's reads, and a division of its DNA section.
 pub record BlockDivision : Type 0 where
   pub lengths : List ℕ
   pub division : Division
@@ -21,13 +21,13 @@ pub record DividesBlock (bases : ℕ) (block : List ℕ) (divided : BlockDivisio
   pub lengths-are : LengthsAre block (divided .lengths)
   pub divides : Divides bases (divided .lengths) (sectionOf block nNumber) (sectionOf block dnaNumber) (divided .division)
 
--- 01: a block is well-formed under a reference of so many bases. It is exactly its header and sections,
--- earns none of 2 to 11, and some division of its DNA section meets the rules.
+-- 01: an opened block is well-formed under a reference of so many bases (its bytes do not matter, only how
+-- many bases it has). The block is exactly its header and sections, earns none of 2 to 11 (9 by having lengths),
+-- and some division of its DNA section meets the rules.
 pub record WellFormed (bases : ℕ) (block : List ℕ) : Type 0 where
   pub bytes : AllBytes block
   pub exact : length block ≡ blockLength (headerOf block)
   pub noHeaderFault : NoneFits (headerFaults block)
   pub divided : BlockDivision
   pub divides : DividesBlock bases block divided
-  pub dnaSize : DnaSizeRight block (divided .lengths)
-  pub nSection : NSectionSized block
+  pub noLengthFault : NoneFits (lengthFaults block (divided .lengths))

@@ -1,0 +1,43 @@
+-- The walk answers every row of the table of sums, and every further row, by computation. Assumes nothing.
+use mathlib.Core.Path.{_≡_, refl}
+use Rattle.base.specs.Numbers.{le}
+use Rattle.base.specs.Packed.{symbolsAt}
+use Rattle.base.specs.Scan.{checked, andThen}
+use Rattle.dna.specs.RecordAt.{
+  entryOf,
+  entriesAt,
+  packedAt,
+  perfectAt,
+  globalAt,
+  leftPlace,
+  localAt,
+  flaggedAt,
+  judgedAt,
+  fieldsAt,
+  varint16At,
+  wordsFor,
+  offsetsAt,
+  nListAt,
+  recordAt,
+}
+use Rattle.dna.specs.Walk.{
+  inRead,
+  onward,
+  checkedRead,
+  lastPosition,
+  readsAt,
+  flagsAt,
+  groupAt,
+  groupsAt,
+  sectionWalk,
+}
+use Rattle.dna.specs.SumsAnswered.{givenBy, sectionGives, furtherRows, TableAnswered}
+use Rattle.dna.proofs.SumsHold.{computed, _&_}
+
+-- The starred sums of 01, and the further rows, are what the walk answers.
+pub table-answered : TableAnswered
+unfolding computed le symbolsAt checked andThen entryOf entriesAt packedAt perfectAt globalAt leftPlace localAt flaggedAt judgedAt fieldsAt varint16At wordsFor offsetsAt nListAt recordAt inRead onward checkedRead lastPosition readsAt flagsAt groupAt groupsAt sectionWalk givenBy sectionGives furtherRows
+table-answered = (
+  refl & refl & refl & refl & refl & refl & refl & refl & refl & refl & refl & refl & refl & tt & tt,
+  refl & refl & refl & refl & refl & refl & refl & refl & refl & refl & tt,
+)
