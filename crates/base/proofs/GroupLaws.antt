@@ -1,13 +1,34 @@
 -- Groups of eight: the first eight, then the groups of the rest. Assumes nothing.
 use mathlib.Core.Path.{_≡_, refl, sym, ap, ap₂, _∙_, subst}
-use Prim.Native.Nat.{ℕ, zero, suc, _+_, _-_, _*_, _/_, _≤_, _<_}
+use Prim.Native.Nat.{ℕ, zero, suc, _+_, _-_, _*_, _/_, _≤_, _<_, min}
 use native.Mathlib.Omega.{arith}
-use mathlib.Core.List.{List, [], _∷_, _++_, flatten}
-use lib.ListN.{length, take, drop, length-drop, take-append-drop}
-use lib.Seq.{drop-drop}
-use Rattle.base.specs.Lists.{build, part, All}
-use Rattle.base.specs.Groups.{groupCount, inGroups}
-use Rattle.base.proofs.ListLaws.{length-build, build-cong}
+use mathlib.Core.List.{
+  List,
+  [],
+  _∷_,
+  _++_,
+  map,
+  flatten,
+  nil≢cons,
+  cons≢nil,
+  head-eq-of-cons-eq,
+  tail-eq-of-cons-eq,
+}
+use lib.ListN.{
+  length,
+  take,
+  drop,
+  replicate,
+  length-take,
+  length-drop,
+  length-append,
+  length-replicate,
+  take-append-drop,
+}
+use lib.Seq.{drop-drop, take-at, drop-at}
+use Rattle.base.specs.Lists.{build, part, total, All}
+use Rattle.base.specs.Groups.{groupCount, inGroups, groupSizes}
+use Rattle.base.proofs.ListLaws.{length-build, build-cong, all-build}
 
 pub inGroups-nil {ℓ} : {A : Type ℓ} → inGroups {A = A} [] ≡ []
 unfolding inGroups groupCount build
@@ -72,3 +93,63 @@ all-inGroups {A} P =
     (λ x xs ih h.
     subst (λ (groups : List (List A)). All (All P) groups) (sym (inGroups-cons x xs))
     (all-take P 8 (x ∷ xs) h, ih (all-drop P 8 (x ∷ xs) h)))
+
+-- ---- Sizes of groups
+
+map-build {ℓ κ} : {A : Type ℓ} {B : Type κ} (f : A → B) (n : ℕ) (g : ℕ → A) → map f (build n g) ≡ build n (λ k. f (g k))
+unfolding build
+map-build f zero g = refl
+map-build f (suc n) g = ap (λ (rest : List _). f (g zero) ∷ rest) (map-build f n (λ k. g (suc k)))
+
+-- The sizes of the groups of a list.
+pub sizes-inGroups {ℓ} : {A : Type ℓ} (list : List A) → map length (inGroups list) ≡ groupSizes (length list)
+unfolding inGroups groupSizes
+sizes-inGroups list =
+    map-build length (groupCount (length list)) (λ g. part list (8 * g) 8)
+    ∙ build-cong (groupCount (length list)) _ _
+    (λ g h. length-take 8 (drop (8 * g) list) ∙ ap (min 8) (length-drop (8 * g) list))
+
+pub length-flatten {ℓ} : {A : Type ℓ} (groups : List (List A)) → length (flatten groups) ≡ total (map length groups)
+unfolding flatten total
+length-flatten [] = refl
+length-flatten (group ∷ groups) = length-append group (flatten groups) ∙ ap (λ (n : ℕ). length group + n) (length-flatten groups)
+
+pub total-groupSizes : (n : ℕ) → total (groupSizes n) ≡ n
+total-groupSizes n =
+    let zeros : List ℕ = replicate n 0 in
+    ap (λ (m : ℕ). total (groupSizes m)) (sym (length-replicate n 0))
+    ∙ ap total (sym (sizes-inGroups zeros))
+    ∙ sym (length-flatten (inGroups zeros))
+    ∙ ap length (flatten-inGroups zeros)
+    ∙ length-replicate n 0
+
+-- Lists of the same sizes that make up the same list are the same.
+pub flatten-same {ℓ} : {A : Type ℓ} (ones others : List (List A)) → map length ones ≡ map length others → flatten ones ≡ flatten others
+    → ones ≡ others
+unfolding flatten
+flatten-same [] [] sizes e = refl
+flatten-same [] (other ∷ others) sizes e = absurd (nil≢cons sizes)
+flatten-same (one ∷ ones) [] sizes e = absurd (cons≢nil sizes)
+flatten-same (one ∷ ones) (other ∷ others) sizes e =
+    let n : length one ≡ length other = head-eq-of-cons-eq sizes in
+    ap₂ _∷_
+    (sym (take-at one (flatten ones) (length other) n) ∙ ap (take (length other)) e ∙ take-at other (flatten others) (length other) refl)
+    (flatten-same ones others (tail-eq-of-cons-eq sizes)
+    (sym (drop-at one (flatten ones) (length other) n) ∙ ap (drop (length other)) e ∙ drop-at other (flatten others) (length other) refl))
+
+-- Groups of the sizes that n reads make are the groups of what they make up.
+pub inGroups-unique {ℓ} : {A : Type ℓ} (n : ℕ) (groups : List (List A)) → map length groups ≡ groupSizes n
+    → (length (flatten groups) ≡ n) × (inGroups (flatten groups) ≡ groups)
+inGroups-unique n groups sizes =
+    let count : length (flatten groups) ≡ n = length-flatten groups ∙ ap total sizes ∙ total-groupSizes n in (
+      count,
+      flatten-same (inGroups (flatten groups)) groups
+          (sizes-inGroups (flatten groups) ∙ ap groupSizes count ∙ sym sizes) (flatten-inGroups (flatten groups)),
+    )
+
+-- No group has more than eight.
+pub inGroups-small {ℓ} : {A : Type ℓ} (list : List A) → All (λ group. length group ≤ 8) (inGroups list)
+unfolding inGroups
+inGroups-small list =
+    all-build (λ group. length group ≤ 8) (groupCount (length list)) (λ g. part list (8 * g) 8)
+    (λ g h. rw length-take (omega arith))

@@ -5,3 +5,4 @@ pub mod NumberLaws
 pub mod PackedLaws
 pub mod GroupLaws
 pub mod ScanLaws
+pub mod BitLaws

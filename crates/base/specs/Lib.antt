@@ -1,7 +1,7 @@
 pub mod Lists
-pub mod Groups
 pub mod Numbers
 pub mod Packed
+pub mod Groups
 pub mod Faults
 pub mod Place
 pub mod Scan

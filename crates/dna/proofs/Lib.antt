@@ -5,6 +5,7 @@ pub mod EntryLaws
 pub mod SizeLaws
 pub mod VarintLaws
 pub mod FieldLaws
+pub mod SizesFind
 pub mod RecordFinds
 pub mod RecordFound
 pub mod WalkLaws

@@ -10,6 +10,7 @@ use Rattle.base.specs.Groups.{inGroups}
 use Rattle.base.specs.Packed.{byteOf}
 use Rattle.base.proofs.ListLaws.{by-test, below-at, below-nil, below-cons, below-append}
 use Rattle.base.proofs.GroupLaws.{all-inGroups}
+use Rattle.base.proofs.BitLaws.{cond-small}
 use Rattle.base.proofs.NumberLaws.{leBytes-bytes}
 use Rattle.base.proofs.PackedLaws.{byteOf-below}
 use Rattle.dna.specs.Varint16.{varint16Words, varint16Bytes}
@@ -47,16 +48,10 @@ group-bytes [] h = below-nil 256
 group-bytes (stored ∷ group) h =
     below-append (storedBytes stored) (flatMap storedBytes group) (stored-bytes stored (h .0)) (group-bytes group (h .1))
 
-flags-below : (test : StoredSize → Bool) (group : List StoredSize) → Below 2 (map (λ stored. cond (test stored) 1 0) group)
-flags-below test [] = below-nil 2
-flags-below test (stored ∷ group) =
-    below-cons (cond (test stored) 1 0) _
-    (by-test (test stored) (λ t. rw t (omega arith)) (λ t. rw t (omega arith))) (flags-below test group)
-
 flagByte-byte : (test : StoredSize → Bool) (group : List StoredSize) → flagByte test group < 256
 unfolding flagByte
 flagByte-byte test group =
-    byteOf-below 2 8 _ (λ k h. below-at (map (λ stored. cond (test stored) 1 0) group) (omega arith) (flags-below test group) k)
+    byteOf-below 2 8 _ (λ k h. cond-small (getD (map test group) k false))
 
 sizeGroup-bytes : (group : List StoredSize) → All StoredFits group → AllBytes (sizeGroupBytes group)
 unfolding sizeGroupBytes

@@ -6,7 +6,7 @@ use mathlib.Core.List.{List, [], _∷_, flatMap}
 use lib.ListN.{getD, drop}
 use native.Mathlib.Omega.{arith}
 use Rattle.base.specs.Lists.{All, Below, build, any, member, indexOf, countTrue, placesFrom}
-use Rattle.base.specs.Groups.{groupCount, inGroups}
+use Rattle.base.specs.Groups.{groupCount, inGroups, byteBitStray}
 use Rattle.base.specs.Numbers.{leBytes}
 use Rattle.base.specs.Packed.{digit, bit, byteOf, packedLength, symbolAt, pack}
 use Rattle.base.specs.Faults.{Fault, fault, NoneFits}
@@ -25,6 +25,8 @@ use Rattle.dna.specs.Sizes.{
   sizeGroupBytes,
   sizeSectionBytes,
   lengthsFrom,
+  lengthInvalid,
+  firstIsSame,
 }
 use Rattle.dna.specs.Record.{
   ReadContext,
@@ -107,7 +109,6 @@ use Rattle.dna.specs.Division.{
   slots,
   readsFrom,
   readsOf,
-  byteBitStray,
   groupBitStray,
   Divides,
   divisionLetters,
@@ -117,7 +118,7 @@ use Rattle.dna.specs.Sums.{reference, packed, entry, rows, fitting, flag
 
 -- All that the table computes with: to unfold this is to unfold each.
 unfoldable pub computed : Unit {0}
-unfolding build any member indexOf countTrue placesFrom groupCount inGroups leBytes digit bit byteOf packedLength symbolAt pack referenceBase complement referenceSizeWrong stretchLetters strandBase stretchIndex letterOfCode varint16Words varint16Bytes isSame isInByte storedBytes flagByte sizeGroupBytes sizeSectionBytes lengthsFrom fieldWidth entryByte packedBytes flagByteOf fieldsBytes hasNList nListBytes recordBytes isAligned fieldOf entriesOf leftOf rightOf alignedLength position positionAfter leftmost leftmostOf referenceIndex entryPlaces nPositions raw4Codes paddingOf rawBitStray recordFlagInvalid spanOutside clipsInvalid laterZero anyOutside entryOffsetInvalid baseCodeInvalid paddingNonzero raw4BitWrong nCountInvalid nListInvalid fieldFaults recordFaults alignedCause fieldsCause causeAt packedCodes codeOf recordLetters plus sumCounts isFiller isUnderN isDifference recordCounts groupBytes divisionBytes contextOf groupSlots slots readsFrom readsOf byteBitStray groupBitStray divisionLetters divisionCounts flatMap reference packed entry rows fitting flagsOf oneRead
+unfolding build any member indexOf countTrue placesFrom groupCount inGroups leBytes digit bit byteOf packedLength symbolAt pack referenceBase complement referenceSizeWrong stretchLetters strandBase stretchIndex letterOfCode varint16Words varint16Bytes isSame isInByte storedBytes flagByte sizeGroupBytes sizeSectionBytes lengthsFrom lengthInvalid firstIsSame fieldWidth entryByte packedBytes flagByteOf fieldsBytes hasNList nListBytes recordBytes isAligned fieldOf entriesOf leftOf rightOf alignedLength position positionAfter leftmost leftmostOf referenceIndex entryPlaces nPositions raw4Codes paddingOf rawBitStray recordFlagInvalid spanOutside clipsInvalid laterZero anyOutside entryOffsetInvalid baseCodeInvalid paddingNonzero raw4BitWrong nCountInvalid nListInvalid fieldFaults recordFaults alignedCause fieldsCause causeAt packedCodes codeOf recordLetters plus sumCounts isFiller isUnderN isDifference recordCounts groupBytes divisionBytes contextOf groupSlots slots readsFrom readsOf byteBitStray groupBitStray divisionLetters divisionCounts flatMap reference packed entry rows fitting flagsOf oneRead
 computed = tt
 
 -- A section with one read is divided, if its parts are as they should be.
@@ -222,13 +223,7 @@ table = (
         first = refl;
         bytes = refl;
         lengths-are = refl;
-        in-range = (
-          record { least = omega arith; most = omega arith },
-          (
-            record { least = omega arith; most = omega arith },
-            (record { least = omega arith; most = omega arith }, tt),
-          ),
-        );
+        in-range = refl;
       }
       & tt,
 )

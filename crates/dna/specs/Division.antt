@@ -1,13 +1,12 @@
 -- Divisions (01, The desk's material and Records): the DNA section cut into four bytes for each group and
 -- after them one record for each of its reads. No walk over bytes defines them.
-use Prim.Native.Nat.{ℕ, suc, _-_, _^_, _%_}
+use Prim.Native.Nat.{ℕ, suc}
 use mathlib.Core.Path.{_≡_}
-use mathlib.Core.Bool.{Bool, false, not, _||_}
+use mathlib.Core.Bool.{Bool, false, _||_}
 use mathlib.Core.List.{List, [], _∷_, _++_, map, flatMap}
 use lib.ListN.{length}
-use lib.Dec.{eqb}
 use Rattle.base.specs.Lists.{All, placesFrom}
-use Rattle.base.specs.Groups.{inGroups}
+use Rattle.base.specs.Groups.{inGroups, byteBitStray}
 use Rattle.base.specs.Packed.{bit}
 use Rattle.base.specs.Faults.{NoneFits}
 use Rattle.dna.specs.Record.{ReadContext, StoredRecord, recordBytes, RecordFits}
@@ -121,11 +120,7 @@ pub record ReadMeets (read : Read) : Type 0 where
   pub fits : RecordFits (read .context) (read .piece .stored)
   pub noFault : NoneFits (recordFaults (read .context) (read .piece .stored))
 
--- 13: a bit past the last of so many reads in a group byte.
-unfoldable pub byteBitStray : (count byte : ℕ) → Bool
-byteBitStray count byte = not (eqb (byte % 2 ^ (8 - count)) 0)
-
--- 13: such a bit in any of the four.
+-- 13: a bit past the last of so many reads, in any of the four group bytes.
 unfoldable pub groupBitStray : (count : ℕ) (flags : GroupFlags) → Bool
 groupBitStray count flags =
     byteBitStray count (flags .perfect)

@@ -10,4 +10,5 @@ pub mod Division
 pub mod Sums
 pub mod RecordAt
 pub mod Walk
+pub mod SizesAt
 pub mod SumsAnswered

@@ -1,11 +1,12 @@
 -- The size section (01, Lengths): groups of 8 reads, the last shorter, each a same byte, a byte-size byte
 -- and the sizes. A list of stored sizes says how each length is stored; the section is its bytes.
-use Prim.Native.Nat.{ℕ, _≤_, _<_}
+use Prim.Native.Nat.{ℕ, _<_}
 use mathlib.Core.Path.{_≡_}
-use mathlib.Core.Bool.{Bool, true, false, cond}
+use mathlib.Core.Bool.{Bool, true, false, cond, _||_}
 use mathlib.Core.List.{List, [], _∷_, map, flatMap}
 use lib.ListN.{getD}
-use Rattle.base.specs.Lists.{All}
+use lib.Dec.{eqb, ltb}
+use Rattle.base.specs.Lists.{any, All}
 use Rattle.base.specs.Groups.{inGroups}
 use Rattle.base.specs.Packed.{byteOf}
 use Rattle.dna.specs.Varint16.{varint16Bytes}
@@ -43,7 +44,7 @@ storedBytes (inWords size) = varint16Bytes size
 
 -- A flag byte: bit k is set exactly if the test holds of read k; bits past the last read are 0.
 unfoldable pub flagByte : (test : StoredSize → Bool) (group : List StoredSize) → ℕ
-flagByte test group = byteOf 2 8 (λ k. getD (map (λ stored. cond (test stored) 1 0) group) k 0)
+flagByte test group = byteOf 2 8 (λ k. cond (getD (map test group) k false) 1 0)
 
 -- The bytes of a group: the same byte, the byte-size byte, the sizes.
 unfoldable pub sizeGroupBytes : (group : List StoredSize) → List ℕ
@@ -60,10 +61,9 @@ lengthsFrom previous (same ∷ rest) = previous ∷ lengthsFrom previous rest
 lengthsFrom previous (inByte size ∷ rest) = size ∷ lengthsFrom size rest
 lengthsFrom previous (inWords size ∷ rest) = size ∷ lengthsFrom size rest
 
--- A read has 1 to 100,000 letters.
-pub record LengthFits (size : ℕ) : Type 0 where
-  pub least : 1 ≤ size
-  pub most : size ≤ maxReadLength
+-- A length of 0 or above 100,000.
+unfoldable pub lengthInvalid : (size : ℕ) → Bool
+lengthInvalid size = eqb size 0 || ltb maxReadLength size
 
 -- What is stored fits its form: one byte is below 256.
 abbrev pub StoredFits : (stored : StoredSize) → Type 0
@@ -71,16 +71,16 @@ StoredFits same = Unit {0}
 StoredFits (inByte size) = size < 256
 StoredFits (inWords size) = Unit {0}
 
--- Same is not the first read's: there is no length before it.
-abbrev pub FirstStored : (stored : List StoredSize) → Type 0
-FirstStored [] = Unit {0}
-FirstStored (first ∷ rest) = isSame first ≡ false
+-- Same on the first read: there is no length before it.
+unfoldable pub firstIsSame : (stored : List StoredSize) → Bool
+firstIsSame [] = false
+firstIsSame (first ∷ rest) = isSame first
 
 -- The size section stores these lengths: its bytes are those of some list of stored sizes.
 pub record SizesStored (section lengths : List ℕ) : Type 0 where
   pub stored : List StoredSize
   pub fit : All StoredFits stored
-  pub first : FirstStored stored
+  pub first : firstIsSame stored ≡ false
   pub bytes : sizeSectionBytes stored ≡ section
   pub lengths-are : lengthsFrom 0 stored ≡ lengths
-  pub in-range : All LengthFits lengths
+  pub in-range : any lengthInvalid lengths ≡ false

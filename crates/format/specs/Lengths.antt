@@ -9,7 +9,7 @@ use lib.Dec.{eqb}
 use Rattle.base.specs.Lists.{total}
 use Rattle.base.specs.Faults.{Fault, fault}
 use Rattle.base.specs.Groups.{groupCount}
-use Rattle.dna.specs.Sizes.{LengthFits, SizesStored}
+use Rattle.dna.specs.Sizes.{lengthInvalid, SizesStored}
 use Rattle.format.specs.Header.{Header, headerOf, flagSet, sameLengthFlag, readCount}
 use Rattle.format.specs.Sections.{sectionOf, sizeNumber, nNumber}
 
@@ -18,7 +18,7 @@ use Rattle.format.specs.Sections.{sectionOf, sizeNumber, nNumber}
 pub record HeaderLengths (header : Header) (sizeSection lengths : List ℕ) : Type 0 where
   pub empty : sizeSection ≡ []
   pub readLength : ℕ
-  pub l-read : 0 < readCount header → (header .«l_read» ≡ pos readLength) × LengthFits readLength
+  pub l-read : 0 < readCount header → (header .«l_read» ≡ pos readLength) × (lengthInvalid readLength ≡ false)
   pub lengths-are : lengths ≡ replicate (readCount header) readLength
 
 -- Without it the size section stores a length for each read.
