@@ -1,5 +1,5 @@
 -- Lists by index, and the few list functions that the definitions above share.
-use Prim.Native.Nat.{ℕ, zero, suc, _+_, _<_, _≤_}
+use Prim.Native.Nat.{ℕ, zero, suc, _+_, _-_, _<_}
 use mathlib.Core.Path.{_≡_}
 use mathlib.Core.Bool.{Bool, true, false, cond, _||_}
 use mathlib.Core.List.{List, [], _∷_, _++_}
@@ -29,6 +29,15 @@ unfoldable pub indexOf : (x : ℕ) (list : List ℕ) → ℕ
 indexOf x [] = 0
 indexOf x (y ∷ ys) = cond (eqb y x) 0 (suc (indexOf x ys))
 
+-- The elements of which a test holds.
+unfoldable pub keep : (test : ℕ → Bool) (list : List ℕ) → List ℕ
+keep test [] = []
+keep test (x ∷ xs) = cond (test x) (x ∷ keep test xs) (keep test xs)
+
+-- The places below `count` at which a test holds, in order.
+unfoldable pub placesWhere : (test : ℕ → Bool) (count : ℕ) → List ℕ
+placesWhere test count = keep test (build count (λ k. k))
+
 -- How many of the tests hold.
 unfoldable pub countTrue : (tests : List Bool) → ℕ
 countTrue [] = 0
@@ -44,6 +53,11 @@ total (x ∷ xs) = x + total xs
 unfoldable pub placesFrom : (start : ℕ) (steps : List ℕ) → List ℕ
 placesFrom start [] = []
 placesFrom start (step ∷ steps) = (start + step) ∷ placesFrom (start + step) steps
+
+-- The steps that lead to some places, each from the one before, the first from `start`.
+unfoldable pub stepsFrom : (start : ℕ) (places : List ℕ) → List ℕ
+stepsFrom start [] = []
+stepsFrom start (place ∷ places) = (place - start) ∷ stepsFrom place places
 
 -- A claim that holds of every element.
 abbrev pub All {ℓ} : {A : Type ℓ} (claim : A → Type 0) (list : List A) → Type 0

@@ -4,3 +4,9 @@ pub mod HeaderFaults
 pub mod Lengths
 pub mod WellFormed
 pub mod Joined
+pub mod Outcome
+pub mod BlockAnswer
+pub mod FileAnswer
+pub mod FixedRule
+pub mod EncodeAnswer
+pub mod Demands

@@ -1,0 +1,221 @@
+-- The demands (01, What a reviewer may lean on), as types over the definitions. That every call ends and harms
+-- nothing is what the prover shows of each function; what each call answers is its contract. The proofs stand in
+-- proofs/. No premise is needed beyond 01's, and what a lent type can hold.
+use Prim.Native.Nat.{ℕ, _+_, _≤_, _<_, _^_}
+use mathlib.Core.Path.{_≡_}
+use mathlib.Core.Logic.{_↔_}
+use mathlib.Core.Bool.{Bool, true, false, _&&_, _||_}
+use mathlib.Core.List.{List, [], _∷_, _++_, map, flatten}
+use lib.ListN.{length, drop}
+use lib.Dec.{leb, eqb}
+use Rattle.base.specs.Lists.{total, placesFrom, All, Begins, Below, AllBytes}
+use Rattle.dna.specs.Reference.{ReferenceFits}
+use Rattle.dna.specs.Sizes.{lengthInvalid}
+use Rattle.dna.specs.Counts.{Counted, zeroCounts, sumCounts, recordCounts}
+use Rattle.dna.specs.Division.{Division, SameDivision, Divides, readEnds}
+use Rattle.format.specs.Header.{headerOf, readCount}
+use Rattle.format.specs.Sections.{sectionOf, dnaNumber, nNumber}
+use Rattle.format.specs.HeaderFaults.{maxReads}
+use Rattle.format.specs.Lengths.{LengthsAre}
+use Rattle.format.specs.WellFormed.{BlockDivision, DividesBlock, WellFormed}
+use Rattle.format.specs.Joined.{
+  Joined,
+  AllWellFormed,
+  CutAt,
+  DivideBlocks,
+  blockReads,
+  blockCounts,
+  fileReads,
+  fileCounts,
+}
+use Rattle.format.specs.Outcome.{Outcome, acceptedBlock, acceptedFile, modulo64}
+use Rattle.format.specs.BlockAnswer.{
+  validatedBlock,
+  decoded,
+  filled,
+  decodedLetters,
+  decodedEnds,
+}
+use Rattle.format.specs.FileAnswer.{validated}
+use Rattle.format.specs.FixedRule.{Candidate, codeOfLetter, writtenFrom, writtenDivision}
+use Rattle.format.specs.EncodeAnswer.{EncodeInput, candidatesOf, blockOf, encoded, encodedBuffer}
+
+-- ---- Demand 1: a refused call changes nothing and counts nothing
+
+-- The numbers 1 to `last`.
+unfoldable pub upTo : (last number : ℕ) → Bool
+upTo last number = leb 1 number && leb number last
+
+-- The writer's numbers.
+unfoldable pub writersOwn : (number : ℕ) → Bool
+writersOwn number = eqb number 1 || (leb 30 number && leb number 34)
+
+-- A refusal: its number is one of the call's own, every count in it is 0, and its read index is 0 or below the
+-- number of reads.
+pub record Refusal (own : ℕ → Bool) (reads : ℕ) (outcome : Outcome) : Type 0 where
+  pub own-number : own (outcome .number) ≡ true
+  pub no-blocks : outcome .blocks ≡ 0
+  pub no-bytes : outcome .bytes ≡ 0
+  pub no-counts : outcome .counts ≡ zeroCounts
+  pub read-index : 0 < outcome .read → outcome .read < reads
+
+pub record Demand1 : Type 0 where
+  -- Decoding: both lent buffers hold what they held before.
+  pub decode : (bases : ℕ) (reference input letters ends : List ℕ)
+      → 0 < decoded bases reference input letters ends .number
+      → Refusal (upTo 22) (readCount (headerOf input)) (decoded bases reference input letters ends)
+      × (decoded bases reference input letters ends .block ≡ 0)
+      × (decodedLetters bases reference input letters ends ≡ letters)
+      × (decodedEnds bases reference input letters ends ≡ ends)
+  -- Judging a block.
+  pub validateBlock : (bases : ℕ) (reference input : List ℕ) → 0 < validatedBlock bases reference input .number
+      → Refusal (upTo 21) (readCount (headerOf input)) (validatedBlock bases reference input)
+      × (validatedBlock bases reference input .block ≡ 0)
+  -- Judging a file: the read's index is one of the block that was refused, which begins at some place of the file.
+  pub validate : (bases : ℕ) (reference file : List ℕ) → 0 < validated bases reference file .number
+      → (place : ℕ) × Refusal (upTo 21) (readCount (headerOf (drop place file))) (validated bases reference file)
+  -- Encoding: the lent buffer holds what it held before, and both indices are 0.
+  pub encode : (bases : ℕ) (reference : List ℕ) (input : EncodeInput) (out : List ℕ)
+      → 0 < encoded bases reference input out .number
+      → Refusal writersOwn 0 (encoded bases reference input out)
+      × (encoded bases reference input out .block ≡ 0)
+      × (encodedBuffer bases reference input out ≡ out)
+
+-- ---- Demand 2, reading: a well-formed block gives exactly what is defined, and no other is accepted
+
+-- The lent buffers have room for the letters and ends of a division.
+pub record Room (reference : List ℕ) (bases letterRoom endRoom : ℕ) (divided : BlockDivision) : Type 0 where
+  pub letters : length (flatten (blockReads reference bases divided)) ≤ letterRoom
+  pub ends : length (divided .lengths) ≤ endRoom
+
+-- The input begins with a well-formed block, and there is room for it.
+pub record Readable (bases : ℕ) (reference input : List ℕ) (letterRoom endRoom : ℕ) : Type 0 where
+  pub block : List ℕ
+  pub rest : List ℕ
+  pub begins : input ≡ block ++ rest
+  pub wellFormed : WellFormed bases block
+  pub room : Room reference bases letterRoom endRoom (wellFormed .divided)
+
+-- What decoding gives by a division: its counts, its letters and its ends, and the buffers past them as before.
+pub record Decodes (bases : ℕ) (reference block input letters ends : List ℕ) (divided : BlockDivision) : Type 0 where
+  pub outcome : decoded bases reference input letters ends
+      ≡ acceptedBlock (length block) (blockCounts reference bases divided)
+  pub letters-are : decodedLetters bases reference input letters ends
+      ≡ filled (flatten (blockReads reference bases divided)) letters
+  pub ends-are : decodedEnds bases reference input letters ends ≡ filled (readEnds (divided .lengths)) ends
+
+pub record ReadsBlocks (bases : ℕ) (reference : List ℕ) : Type 0 where
+  -- A block is accepted exactly if the input begins with a well-formed one and there is room.
+  pub accepted : (input letters ends : List ℕ) → AllBytes input
+      → (decoded bases reference input letters ends .number ≡ 0)
+      ↔ Readable bases reference input (length letters) (length ends)
+  -- Every division of such a block gives the letters, ends and counts of the answer, whatever follows the block.
+  pub gives : (block rest letters ends : List ℕ) (divided : BlockDivision) → WellFormed bases block
+      → DividesBlock bases block divided → Room reference bases (length letters) (length ends) divided
+      → Decodes bases reference block (block ++ rest) letters ends divided
+  -- Judging a block accepts exactly if the input begins with a well-formed one.
+  pub validates : (input : List ℕ) → AllBytes input
+      → (validatedBlock bases reference input .number ≡ 0)
+      ↔ ((block : List ℕ) × (rest : List ℕ) × (input ≡ block ++ rest) × WellFormed bases block)
+  -- Its counts are those of every division of the block.
+  pub counts : (block rest : List ℕ) (divided : BlockDivision) → WellFormed bases block
+      → DividesBlock bases block divided
+      → validatedBlock bases reference (block ++ rest)
+      ≡ acceptedBlock (length block) (blockCounts reference bases divided)
+
+abbrev pub Demand2Reading : Type 0
+Demand2Reading = (bases : ℕ) (reference : List ℕ) → ReferenceFits bases reference → ReadsBlocks bases reference
+
+-- ---- Demand 2, writing: every list of reads is written by the fixed rule and reads back
+
+-- Reads within the limits: at most 50,000, each of 1 to 100,000 letters of A, C, G, T, N, in all below 2 ^ 32; four
+-- proposals a read, whatever they say; b_id and c_time of 64 bits.
+pub record Writable (reads : List (List ℕ)) (input : EncodeInput) : Type 0 where
+  pub few : length reads ≤ maxReads
+  pub lengths : All (λ read. lengthInvalid (length read) ≡ false) reads
+  pub letters : All (λ read. All (λ letter. codeOfLetter letter < 5) read) reads
+  pub small : total (map length reads) < 2 ^ 32
+  pub letters-are : input .letters ≡ flatten reads
+  pub ends-are : input .ends ≡ placesFrom 0 (map length reads)
+  pub positions : length (input .positions) ≡ length reads
+  pub strands : length (input .strands) ≡ length reads
+  pub lefts : length (input .lefts) ≡ length reads
+  pub rights : length (input .rights) ≡ length reads
+  pub positions-fit : Below (2 ^ 32) (input .positions)
+  pub strands-fit : AllBytes (input .strands)
+  pub lefts-fit : AllBytes (input .lefts)
+  pub rights-fit : AllBytes (input .rights)
+  pub id-fits : input .id < 2 ^ 64
+  pub time-fits : input .time < 2 ^ 64
+
+-- The reads as codes.
+abbrev pub codesOf : (reads : List (List ℕ)) → List (List ℕ)
+codesOf reads = map (map codeOfLetter) reads
+
+-- The counts of the records that the fixed rule makes.
+abbrev pub ruleCounts : (bases : ℕ) (reference : List ℕ) (reads : List (List ℕ)) (candidates : List Candidate) → Counted
+ruleCounts bases reference reads candidates =
+    sumCounts (map (λ w. recordCounts reference (w .context) (w .stored)) (writtenFrom bases reference 0 reads candidates))
+
+pub record Writes (bases : ℕ) (reference : List ℕ) (reads : List (List ℕ)) (input : EncodeInput) : Type 0 where
+  -- With a buffer as long as the rule's block, the answer is its length; the buffer begins with it and keeps its
+  -- rest.
+  pub outcome : (out : List ℕ) → length (blockOf bases reference input) ≤ length out
+      → encoded bases reference input out ≡ acceptedBlock (length (blockOf bases reference input)) zeroCounts
+  pub buffer : (out : List ℕ) → length (blockOf bases reference input) ≤ length out
+      → encodedBuffer bases reference input out ≡ filled (blockOf bases reference input) out
+  -- The block is well-formed, and the records of its division are the fixed rule's.
+  pub wellFormed : WellFormed bases (blockOf bases reference input)
+  pub division : (divided : BlockDivision) → DividesBlock bases (blockOf bases reference input) divided
+      → (divided .lengths ≡ map length reads)
+      × (divided .division ≡ writtenDivision bases reference (codesOf reads) (candidatesOf input))
+  -- Decoding it, whatever follows, gives these letters, these ends and the counts of the rule's records.
+  pub reads-back : (rest letters ends : List ℕ) → total (map length reads) ≤ length letters → length reads ≤ length ends
+      → (decoded bases reference (blockOf bases reference input ++ rest) letters ends
+      ≡ acceptedBlock (length (blockOf bases reference input)) (ruleCounts bases reference (codesOf reads) (candidatesOf input)))
+      × (decodedLetters bases reference (blockOf bases reference input ++ rest) letters ends ≡ filled (flatten reads) letters)
+      × (decodedEnds bases reference (blockOf bases reference input ++ rest) letters ends
+      ≡ filled (placesFrom 0 (map length reads)) ends)
+
+abbrev pub Demand2Writing : Type 0
+Demand2Writing =
+    (bases : ℕ) (reference : List ℕ) → ReferenceFits bases reference → AllBytes reference
+    → (reads : List (List ℕ)) (input : EncodeInput) → Writable reads input → Writes bases reference reads input
+
+-- ---- Demand 3: judging files
+
+-- What a file's beginning has in common with the file: of blocks bs and cs, and of any divisions of them.
+pub record Prefix (bases : ℕ) (reference front whole : List ℕ) (bs cs : List (List ℕ)) : Type 0 where
+  -- Its blocks begin the other's.
+  pub blocks : Begins bs cs
+  -- Up to its end, it is cut where the other is.
+  pub cuts : (place : ℕ) → place ≤ length front → CutAt bases front place ↔ CutAt bases whole place
+  -- Its reads begin the other's.
+  pub reads : (ds es : List BlockDivision) → DivideBlocks bases bs ds → DivideBlocks bases cs es
+      → Begins (fileReads reference bases ds) (fileReads reference bases es)
+
+pub record JudgesFiles (bases : ℕ) (reference : List ℕ) : Type 0 where
+  -- Judging accepts exactly the files joined from well-formed blocks.
+  pub accepted : (file : List ℕ) → AllBytes file
+      → (validated bases reference file .number ≡ 0)
+      ↔ ((blocks : List (List ℕ)) × AllWellFormed bases blocks × Joined blocks file)
+  -- That list is unique.
+  pub one-list : (file : List ℕ) (bs cs : List (List ℕ)) → AllWellFormed bases bs → AllWellFormed bases cs → Joined bs file
+      → Joined cs file → bs ≡ cs
+  -- The answer is its number and the sums modulo 2 ^ 64, by every list of divisions of the blocks.
+  pub answer : (file : List ℕ) (blocks : List (List ℕ)) (ds : List BlockDivision) → AllWellFormed bases blocks → Joined blocks file
+      → DivideBlocks bases blocks ds
+      → validated bases reference file ≡ acceptedFile (length blocks) (modulo64 (fileCounts reference bases ds))
+  -- A prefix of a file has a prefix of its blocks, cuts and reads.
+  pub prefixes : (front whole : List ℕ) → AllBytes whole → validated bases reference front .number ≡ 0
+      → validated bases reference whole .number ≡ 0 → Begins front whole
+      → (bs cs : List (List ℕ)) → AllWellFormed bases bs → AllWellFormed bases cs → Joined bs front → Joined cs whole
+      → Prefix bases reference front whole bs cs
+  -- Inside a block the division of the DNA section is unique.
+  pub one-division : (block lengths : List ℕ) (one other : Division) → WellFormed bases block → LengthsAre block lengths
+      → Divides bases lengths (sectionOf block nNumber) (sectionOf block dnaNumber) one
+      → Divides bases lengths (sectionOf block nNumber) (sectionOf block dnaNumber) other → SameDivision one other
+
+-- One claim about every reference, file and list of blocks.
+abbrev pub Demand3 : Type 0
+Demand3 = (bases : ℕ) (reference : List ℕ) → ReferenceFits bases reference → JudgesFiles bases reference
