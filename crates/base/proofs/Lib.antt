@@ -4,3 +4,5 @@ pub mod Tests
 pub mod NumberLaws
 pub mod PackedLaws
 pub mod PasteLaws
+pub mod PaddingLaws
+pub mod PackedPasteLaws

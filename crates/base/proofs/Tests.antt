@@ -3,13 +3,13 @@ use mathlib.Core.Path.{_≡_, refl, sym, ap, _∙_}
 use Prim.Native.Nat.{ℕ, zero, suc, _+_, _≤_, _<_}
 use mathlib.Core.Bool.{Bool, true, false, _&&_, _||_, not, Bool·beq}
 use mathlib.Core.Logic.{_↔_}
-use mathlib.Core.List.{List, [], _∷_}
+use mathlib.Core.List.{List, [], _∷_, _++_}
 use lib.ListN.{length, getD}
 use lib.Dec.{leb, ltb, eqb}
 use borrow.Author.Tests.{ltb-true, lt-ltb}
 use native.Mathlib.Omega.{arith}
 use Rattle.base.specs.Lists.{any, Below}
-use Rattle.base.proofs.ListLaws.{below-nil, below-cons}
+use Rattle.base.proofs.ListLaws.{by-test, below-nil, below-cons}
 
 pub absurd-test {ℓ} : {X : Type ℓ} → true ≡ false → X
 absurd-test e = let z : _≡_ {A = ℕ} 0 1 = cc in absurd (omega arith)
@@ -66,3 +66,17 @@ test-below bound [] e = below-nil bound
 test-below bound (x ∷ xs) e =
     let both = and-both (ltb x bound) (belowTest bound xs) e in
     below-cons x xs (ltb-true x bound (both .0)) (test-below bound xs (both .1))
+
+pub not-not : (t : Bool) → not (not t) ≡ t
+not-not true = refl
+not-not false = refl
+
+pub or-false : (t : Bool) → t || false ≡ t
+or-false true = refl
+or-false false = refl
+
+-- Some element of two lists together: one of the first or one of the second.
+pub any-append {ℓ} : {A : Type ℓ} (test : A → Bool) (xs ys : List A) → any test (xs ++ ys) ≡ any test xs || any test ys
+unfolding any
+any-append test [] ys = refl
+any-append test (x ∷ xs) ys = by-test (test x) (λ e. rw e) (λ e. rw e (any-append test xs ys))
