@@ -99,17 +99,18 @@ leBytes-mod zero x = refl
 leBytes-mod (suc width) x =
     let high : ℕ = x / 256 % 256 ^ width in
     let split : x % 256 ^ suc width ≡ high * 256 + x % 256 =
-    ap (λ (y : ℕ). x % y) (pow-suc 256 width) ∙ mod-mul x (one-le-pow width 256 (zero-lt-suc 255)) (zero-lt-suc 255) in
+    ap (λ (y : ℕ). x % y) (pow-suc 256 width)
+    ∙ mod-mul x (one-le-pow width 256 (zero-lt-suc 255)) (zero-lt-suc 255) in
     ap₂ (λ (low : ℕ) (rest : List ℕ). low ∷ rest)
     (ap (λ (y : ℕ). y % 256) split ∙ omega arith)
     (ap (λ (y : ℕ). leBytes width (y / 256)) split
     ∙ ap (leBytes width) (digits-div high (mod-lt x (zero-lt-suc 255)))
     ∙ leBytes-mod width (x / 256))
 
--- Writing a number's low part, of m bytes, and its high part, of n bytes, next to each other writes the number.
-pub pasted-leBytes : (m n : ℕ) (buffer first second : List ℕ) (at place x low high : ℕ) → at + (m + n) ≤ length buffer
-    → place ≡ at + m → low ≡ x % 256 ^ m → high ≡ x / 256 ^ m → first ≡ pasted buffer at (leBytes m low)
-    → second ≡ pasted first place (leBytes n high) → second ≡ pasted buffer at (leBytes (m + n) x)
+-- Writing a number's low m bytes, and the n of the rest after them, writes the number.
+pub pasted-leBytes : (m n : ℕ) (buffer first second : List ℕ) (at place x low high : ℕ)
+    → at + (m + n) ≤ length buffer → place ≡ at + m → low ≡ x % 256 ^ m → high ≡ x / 256 ^ m
+    → first ≡ pasted buffer at (leBytes m low) → second ≡ pasted first place (leBytes n high) → second ≡ pasted buffer at (leBytes (m + n) x)
 pasted-leBytes m n buffer first second at place x low high room there lower upper one two =
     let part : List ℕ = leBytes m x in
     let len : length part ≡ m = length-leBytes m x in

@@ -29,7 +29,7 @@ use native.Mathlib.Omega.{arith}
 use mathlib.Core.List.{List, [], _∷_, _++_}
 use lib.ListN.{length, getD, length-append}
 use lib.Seq.{ext-getD}
-use lib.Pow.{pow-add, pow-lt}
+use lib.Pow.{pow-add, pow-lt, pow-pos}
 use lib.Arith.{digits-lt, digits-div, digits-mod}
 use Rattle.base.specs.Lists.{build, part, Below}
 use Rattle.base.specs.Packed.{digit, byteOf, packedLength, symbolAt, pack, symbolsAt}
@@ -248,11 +248,16 @@ unfolding digit
 shift-digit bits per x k shift e =
     ap (λ (y : ℕ). x / y % 2 ^ bits) (ap (λ (m : ℕ). 2 ^ m) e ∙ pow-pow bits (per - suc k))
 
--- A one shifted by so many digits is a power of the base, where it fits the width.
+-- A one shifted is a power of two, where it fits the width.
+pub shift-one : (width shift : ℕ) → shift < width → (1 * 2 ^ shift) % 2 ^ width ≡ 2 ^ shift
+shift-one width shift fits =
+    ap (λ (y : ℕ). y % 2 ^ width) (one-mul (2 ^ shift)) ∙ mod-eq-of-lt (pow-lt fits)
+
+pub shift-one-some : (width shift : ℕ) → shift < width → 0 < (1 * 2 ^ shift) % 2 ^ width
+shift-one-some width shift fits = rw (shift-one width shift fits) (pow-pos shift)
+
+-- A one shifted by so many digits is a power of the base.
 pub shift-power : (bits count width shift : ℕ) → shift ≡ bits * count → shift < width
     → (1 * 2 ^ shift) % 2 ^ width ≡ (2 ^ bits) ^ count
 shift-power bits count width shift e fits =
-    ap (λ (y : ℕ). y % 2 ^ width) (one-mul (2 ^ shift))
-    ∙ mod-eq-of-lt (pow-lt fits)
-    ∙ ap (λ (m : ℕ). 2 ^ m) e
-    ∙ pow-pow bits count
+    shift-one width shift fits ∙ ap (λ (m : ℕ). 2 ^ m) e ∙ pow-pow bits count

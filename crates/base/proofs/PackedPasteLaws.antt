@@ -1,5 +1,5 @@
--- Writing packed symbols into a buffer, one byte a store: full bytes in a loop, then a last one that is not
--- full. Over every base and number of symbols a byte. Assumes nothing.
+-- Writing packed symbols into a buffer, one byte a store: full bytes in a loop, then a last one that
+-- is not full. Over every base and number of symbols a byte. Assumes nothing.
 use mathlib.Core.Path.{_≡_, sym, ap, _∙_}
 use Prim.Native.Nat.{ℕ, _+_, _*_, _/_, _%_, _≤_, _<_}
 use native.Mathlib.Omega.{arith}

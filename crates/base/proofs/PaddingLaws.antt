@@ -1,5 +1,5 @@
--- Padding (01, Records): the symbols of the last byte past the last one. They are all 0 exactly if the byte's
--- remainder is 0. Over every base and number of symbols a byte. Assumes nothing.
+-- Padding (01, Records): the symbols of the last byte past the last one. They are all 0 exactly if a
+-- remainder of the byte is 0. Over every base and number of symbols a byte. Assumes nothing.
 use mathlib.Core.Path.{_≡_, refl, sym, ap, ap₂, _∙_}
 use Prim.Native.Nat.{ℕ, zero, suc, _+_, _-_, _*_, _/_, _%_, _^_, _≤_, _<_}
 use native.Mathlib.Nat.{
@@ -49,7 +49,8 @@ nonzero-two base (suc high) low some =
     ∙ sym (ap not (ne-eqb (suc high * base + low) 0 (λ e. omega (arith, suc-mul high base))))
 
 -- The n lowest digits of a number are all 0 if its remainder by base ^ n is.
-nonzero-digits : (base n x : ℕ) → 0 < base → any nonzero (build n (λ j. digit base n x j)) ≡ nonzero (x % base ^ n)
+nonzero-digits : (base n x : ℕ) → 0 < base
+    → any nonzero (build n (λ j. digit base n x j)) ≡ nonzero (x % base ^ n)
 unfolding build any
 nonzero-digits base zero x some = rw (pow-zero, mod-one)
 nonzero-digits base (suc n) x some =
@@ -60,7 +61,8 @@ nonzero-digits base (suc n) x some =
     ∙ ap (any nonzero) (build-snoc n (λ j. digit base (suc n) x j))
     ∙ any-append nonzero (build n (λ j. digit base (suc n) x j)) (digit base (suc n) x n ∷ [])
     ∙ ap₂ (λ (front last : Bool). front || last)
-    (ap (any nonzero) (build-cong n _ _ (λ j h. digit-front base n x j h)) ∙ nonzero-digits base n (x / base) some)
+    (ap (any nonzero) (build-cong n _ _ (λ j h. digit-front base n x j h))
+    ∙ nonzero-digits base n (x / base) some)
     (or-false (nonzero (digit base (suc n) x n)) ∙ ap nonzero (digit-last base n x))
     ∙ nonzero-two base (x / base % base ^ n) (x % base) some
     ∙ ap nonzero (sym split)
@@ -79,10 +81,11 @@ module _ (base per : ℕ) (someBase : 0 < base) (somePer : 0 < per) (list : List
   unfolding symbolsAt build any
   padding-none full =
       let none : packedLength per n * per - n ≡ 0 =
-      ap (λ (m : ℕ). m * per - n) (packedLength-full per n somePer full) ∙ omega (arith, div-add-mod' n per) in
+      ap (λ (m : ℕ). m * per - n) (packedLength-full per n somePer full)
+      ∙ omega (arith, div-add-mod' n per) in
       ap (λ (m : ℕ). not (any (λ symbol. not (eqb symbol 0)) (symbolsAt base per list at n m))) none
 
-  -- Where they do not, the padding is 0 exactly if the last byte's remainder by a power of the base is 0.
+  -- Where they do not, the padding is 0 exactly if the last byte's remainder is.
   pub padding-some : (divisor : ℕ) → 0 < n % per → divisor ≡ base ^ (per - n % per)
       → not (any (λ symbol. not (eqb symbol 0)) (symbolsAt base per list at n (packedLength per n * per - n)))
       ≡ eqb (getD list (at + n / per) 0 % divisor) 0
@@ -95,7 +98,8 @@ module _ (base per : ℕ) (someBase : 0 < base) (somePer : 0 < per) (list : List
       let some : packedLength per n * per - n ≡ count =
       ap (λ (m : ℕ). m * per - n) (packedLength-partial per n somePer left)
       ∙ omega (arith, add-mul (n / per) 1 per, one-mul per) in
-      let same : (j : ℕ) → j < count → digit base per (getD list (at + (n + j) / per) 0) ((n + j) % per) ≡ digit base count byte j =
+      let same : (j : ℕ) → j < count
+      → digit base per (getD list (at + (n + j) / per) 0) ((n + j) % per) ≡ digit base count byte j =
       λ j h.
       let flat : n + j ≡ n / per * per + (n % per + j) = omega arith in
       let inside : n % per + j < per = omega arith in

@@ -53,7 +53,8 @@ module _ {ℓ} {A : Type ℓ} where
         ∙ omega arith
 
     -- Before the part the buffer is as it was.
-    pub getD-pasted-before : (k : ℕ) (d : A) → k < at → getD (pasted buffer at part) k d ≡ getD buffer k d
+    pub getD-pasted-before : (k : ℕ) (d : A) → k < at
+        → getD (pasted buffer at part) k d ≡ getD buffer k d
     unfolding pasted
     getD-pasted-before k d h =
         let inside : k < length (take at buffer) = omega (arith, length-take-le at buffer (omega arith)) in
@@ -62,7 +63,8 @@ module _ {ℓ} {A : Type ℓ} where
         ∙ getD-take at buffer k d h
 
     -- Where the part is written stands the part.
-    pub getD-pasted-inside : (k : ℕ) (d : A) → k < length part → getD (pasted buffer at part) (at + k) d ≡ getD part k d
+    pub getD-pasted-inside : (k : ℕ) (d : A) → k < length part
+        → getD (pasted buffer at part) (at + k) d ≡ getD part k d
     unfolding pasted
     getD-pasted-inside k d h =
         let e : length (take at buffer) ≡ at = length-take-le at buffer (omega arith) in
@@ -72,7 +74,8 @@ module _ {ℓ} {A : Type ℓ} where
         ∙ List·getD-append part (drop (at + length part) buffer) d k h
 
     -- After the part the buffer is as it was.
-    pub getD-pasted-after : (k : ℕ) (d : A) → at + length part ≤ k → getD (pasted buffer at part) k d ≡ getD buffer k d
+    pub getD-pasted-after : (k : ℕ) (d : A) → at + length part ≤ k
+        → getD (pasted buffer at part) k d ≡ getD buffer k d
     unfolding pasted
     getD-pasted-after k d h =
         let rest : List A = drop (at + length part) buffer in
@@ -87,11 +90,13 @@ module _ {ℓ} {A : Type ℓ} where
     -- What is before the end of the part, and what is after it.
     pub take-pasted : take (at + length part) (pasted buffer at part) ≡ take at buffer ++ part
     unfolding pasted
-    take-pasted = take-at (take at buffer ++ part) (drop (at + length part) buffer) (at + length part) length-front
+    take-pasted =
+        take-at (take at buffer ++ part) (drop (at + length part) buffer) (at + length part) length-front
 
     pub drop-pasted : drop (at + length part) (pasted buffer at part) ≡ drop (at + length part) buffer
     unfolding pasted
-    drop-pasted = drop-at (take at buffer ++ part) (drop (at + length part) buffer) (at + length part) length-front
+    drop-pasted =
+        drop-at (take at buffer ++ part) (drop (at + length part) buffer) (at + length part) length-front
 
     -- Two parts side by side are one.
     pub pasted-append : (next : List A)
@@ -100,7 +105,8 @@ module _ {ℓ} {A : Type ℓ} where
     pasted-append next =
         let place : at + length part + length next ≡ at + length (part ++ next) =
         omega (arith, length-append part next) in
-        let rest : drop (at + length part + length next) (pasted buffer at part) ≡ drop (at + length (part ++ next)) buffer =
+        let rest : drop (at + length part + length next) (pasted buffer at part)
+        ≡ drop (at + length (part ++ next)) buffer =
         sym (drop-drop (length next) (at + length part) (pasted buffer at part))
         ∙ ap (drop (length next)) drop-pasted
         ∙ drop-drop (length next) (at + length part) buffer
@@ -115,7 +121,8 @@ module _ {ℓ} {A : Type ℓ} where
     sets-pasted = sets-eq part buffer at fits
 
   -- Storing one element writes a part of one.
-  pub set-pasted : (buffer : List A) (at : ℕ) (x : A) → at < length buffer → set buffer at x ≡ pasted buffer at (x ∷ [])
+  pub set-pasted : (buffer : List A) (at : ℕ) (x : A) → at < length buffer
+      → set buffer at x ≡ pasted buffer at (x ∷ [])
   set-pasted buffer at x h = sets-pasted buffer at (x ∷ []) (omega arith)
 
   -- The kit's copy of the first n elements of a list writes a part of them.
@@ -125,13 +132,14 @@ module _ {ℓ} {A : Type ℓ} where
   paste-pasted buffer at part n h = rw (length-take-le n part h)
 
   -- A part written over a shorter one, or one as long, from the same index on.
-  pub pasted-over : (buffer : List A) (at : ℕ) (old new : List A) → length old ≤ length new → at + length new ≤ length buffer
-      → pasted (pasted buffer at old) at new ≡ pasted buffer at new
+  pub pasted-over : (buffer : List A) (at : ℕ) (old new : List A) → length old ≤ length new
+      → at + length new ≤ length buffer → pasted (pasted buffer at old) at new ≡ pasted buffer at new
   unfolding pasted
   pasted-over buffer at old new shorter fits =
       let front : take at (pasted buffer at old) ≡ take at buffer =
       ap (take at) (append-assoc (take at buffer) old (drop (at + length old) buffer))
-      ∙ take-at (take at buffer) (old ++ drop (at + length old) buffer) at (length-take-le at buffer (omega arith)) in
+      ∙ take-at (take at buffer) (old ++ drop (at + length old) buffer) at
+      (length-take-le at buffer (omega arith)) in
       let m : ℕ = length new - length old in
       let there : at + length new ≡ at + length old + m = omega arith in
       let back : drop (at + length new) (pasted buffer at old) ≡ drop (at + length new) buffer =
@@ -157,8 +165,8 @@ module _ {ℓ} {A : Type ℓ} where
   -- ---- As code writes: one buffer after the other
 
   -- Two writers, the second from where the first stopped.
-  pub pasted-then : (buffer first second : List A) (at place : ℕ) (part next : List A) → at + length part ≤ length buffer
-      → place ≡ at + length part → first ≡ pasted buffer at part → second ≡ pasted first place next
+  pub pasted-then : (buffer first second : List A) (at place : ℕ) (part next : List A)
+      → at + length part ≤ length buffer → place ≡ at + length part → first ≡ pasted buffer at part → second ≡ pasted first place next
       → second ≡ pasted buffer at (part ++ next)
   pasted-then buffer first second at place part next fits there one two =
       two
@@ -166,16 +174,18 @@ module _ {ℓ} {A : Type ℓ} where
       ∙ pasted-append buffer at part fits next
 
   -- A writer, then a store of one element from where it stopped.
-  pub pasted-snoc : (buffer out : List A) (at place : ℕ) (part : List A) (x : A) → at + length part < length buffer
-      → place ≡ at + length part → out ≡ pasted buffer at part → set out place x ≡ pasted buffer at (part ++ (x ∷ []))
+  pub pasted-snoc : (buffer out : List A) (at place : ℕ) (part : List A) (x : A)
+      → at + length part < length buffer → place ≡ at + length part → out ≡ pasted buffer at part
+      → set out place x ≡ pasted buffer at (part ++ (x ∷ []))
   pasted-snoc buffer out at place part x room there e =
       let len : length out ≡ length buffer = ap length e ∙ length-pasted buffer at part (omega arith) in
       pasted-then buffer out (set out place x) at place part (x ∷ []) (omega arith) there e
       (set-pasted out place x (omega arith))
 
   -- A loop that writes the list f 0, f 1, .. one element a turn: the turn that stores element k.
-  pub pasted-turn : (buffer : List A) (at : ℕ) (f : ℕ → A) (out : List A) (k : ℕ) (x : A) → at + k < length buffer
-      → out ≡ pasted buffer at (build k f) → x ≡ f k → set out (at + k) x ≡ pasted buffer at (build (k + 1) f)
+  pub pasted-turn : (buffer : List A) (at : ℕ) (f : ℕ → A) (out : List A) (k : ℕ) (x : A)
+      → at + k < length buffer → out ≡ pasted buffer at (build k f) → x ≡ f k
+      → set out (at + k) x ≡ pasted buffer at (build (k + 1) f)
   pasted-turn buffer at f out k x room e q =
       let len : length (build k f) ≡ k = length-build k f in
       pasted-snoc buffer out at (at + k) (build k f) x (omega arith) (omega arith) e

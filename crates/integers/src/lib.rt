@@ -1,5 +1,6 @@
-// Numbers at a place of a slice, the lowest byte first, and the signed meaning of 32 bits. The contracts
-// cite specs/Numbers.antt and specs/Paste.antt of base; each `requires` says that the bytes are there.
+// Numbers at a place of a slice, the lowest byte first, and the signed meaning of 32 bits.
+// The contracts cite specs/Numbers.antt and specs/Paste.antt of base; each `requires` says that the
+// bytes are there.
 ghost use mathlib.Core.Path.{_≡_};
 ghost use Prim.Native.Nat.{_+_, _≤_, _<_, _^_};
 ghost use lib.ListN.{length};

@@ -1,6 +1,6 @@
-// Packed symbols, the first in the high bits of a byte: four of two bits a byte, or two of four bits. Reading
-// one, counting bytes, testing padding, writing. The contracts cite specs/Packed.antt and specs/Paste.antt of
-// base; each `requires` says that the bytes are there and that what is written is narrow enough.
+// Packed symbols, the first in the high bits of a byte: four of two bits a byte, or two of four.
+// Reading one, counting bytes, testing padding, writing. The contracts cite specs/Packed.antt and
+// specs/Paste.antt of base; each `requires` says that the bytes are there and the codes narrow.
 ghost use mathlib.Core.Path.{_≡_};
 ghost use mathlib.Core.Bool.{not};
 ghost use Prim.Native.Nat.{_+_, _-_, _*_, _/_, _%_, _^_, _≤_, _<_};
@@ -44,10 +44,11 @@ pub fn packed_length4(n: usize) -> usize
     (n + 1) / 2
 }
 
-// Whether the symbols of two bits past the n from byte `at` on are all 0, up to the end of the last byte.
+// Whether the symbols of two bits after the n from byte `at` on, to the end of the byte, are all 0.
 pub fn padding_is_zero2(s: &[u8], at: usize, n: usize) -> bool
     requires { ⌜ at + packedLength 4 n ≤ length (now s) ⌝ }
-    ensures { λ r. ⌜ r ≡ not (any (λ symbol. not (eqb symbol 0)) (symbolsAt 4 4 (now (s .entry)) at n (packedLength 4 n * 4 - n))) ⌝ }
+    ensures { λ r. ⌜ r ≡ not (any (λ symbol. not (eqb symbol 0))
+        (symbolsAt 4 4 (now (s .entry)) at n (packedLength 4 n * 4 - n))) ⌝ }
 {
     if n % 4 == 0 {
         return true;
@@ -55,10 +56,11 @@ pub fn padding_is_zero2(s: &[u8], at: usize, n: usize) -> bool
     s[at + n / 4] % (1 << (8 - 2 * (n % 4))) == 0
 }
 
-// Whether the symbol of four bits past the n from byte `at` on is 0, where the last byte has one.
+// Whether the symbol of four bits after the n from byte `at` on is 0, where the last byte has one.
 pub fn padding_is_zero4(s: &[u8], at: usize, n: usize) -> bool
     requires { ⌜ at + packedLength 2 n ≤ length (now s) ⌝ }
-    ensures { λ r. ⌜ r ≡ not (any (λ symbol. not (eqb symbol 0)) (symbolsAt 16 2 (now (s .entry)) at n (packedLength 2 n * 2 - n))) ⌝ }
+    ensures { λ r. ⌜ r ≡ not (any (λ symbol. not (eqb symbol 0))
+        (symbolsAt 16 2 (now (s .entry)) at n (packedLength 2 n * 2 - n))) ⌝ }
 {
     if n % 2 == 0 {
         return true;
@@ -68,9 +70,10 @@ pub fn padding_is_zero4(s: &[u8], at: usize, n: usize) -> bool
 
 // ---- Writing
 
-// Packs symbols of two bits into `out` from byte `at` on. Symbols missing from the last byte count as 0.
+// Packs symbols of two bits into `out` from byte `at` on; what the last byte lacks counts as 0.
 pub fn put_symbols2(codes: &[u8], out: &mut [u8], at: usize)
-    requires { ⌜ Below 4 (now codes) × (at + packedLength 4 (length (now codes)) ≤ length (now out)) ⌝ }
+    requires { ⌜ Below 4 (now codes) ⌝ }
+    requires { ⌜ at + packedLength 4 (length (now codes)) ≤ length (now out) ⌝ }
     ensures { λ _. ⌜ now (out .exit) ≡ pasted (now (out .entry)) at (pack 4 4 (now (codes .entry))) ⌝ }
 {
     let full = codes.len() / 4;
@@ -86,7 +89,8 @@ pub fn put_symbols2(codes: &[u8], out: &mut [u8], at: usize)
 
 // Packs symbols of four bits into `out` from byte `at` on.
 pub fn put_symbols4(codes: &[u8], out: &mut [u8], at: usize)
-    requires { ⌜ Below 16 (now codes) × (at + packedLength 2 (length (now codes)) ≤ length (now out)) ⌝ }
+    requires { ⌜ Below 16 (now codes) ⌝ }
+    requires { ⌜ at + packedLength 2 (length (now codes)) ≤ length (now out) ⌝ }
     ensures { λ _. ⌜ now (out .exit) ≡ pasted (now (out .entry)) at (pack 16 2 (now (codes .entry))) ⌝ }
 {
     let full = codes.len() / 2;
@@ -102,7 +106,8 @@ pub fn put_symbols4(codes: &[u8], out: &mut [u8], at: usize)
 
 // The byte of the four codes from index `from` on.
 fn full_byte2(codes: &[u8], from: usize) -> u8
-    requires { ⌜ Below 4 (now codes) × (from + 4 ≤ length (now codes)) ⌝ }
+    requires { ⌜ Below 4 (now codes) ⌝ }
+    requires { ⌜ from + 4 ≤ length (now codes) ⌝ }
     ensures { λ r. ⌜ r ≡ byteOf 4 4 (λ k. getD (now (codes .entry)) (from + k) 0) ⌝ }
 {
     byte2(
@@ -115,7 +120,8 @@ fn full_byte2(codes: &[u8], from: usize) -> u8
 
 // The byte of the last one to three codes, from index `from` on.
 fn last_byte2(codes: &[u8], from: usize) -> u8
-    requires { ⌜ Below 4 (now codes) × (from % 4 ≡ 0) × (from < length (now codes)) × (length (now codes) < from + 4) ⌝ }
+    requires { ⌜ Below 4 (now codes) ⌝ }
+    requires { ⌜ (from % 4 ≡ 0) × (from < length (now codes)) × (length (now codes) < from + 4) ⌝ }
     ensures { λ r. ⌜ r ≡ byteOf 4 4 (λ k. getD (now (codes .entry)) (from + k) 0) ⌝ }
 {
     byte2(
@@ -128,7 +134,8 @@ fn last_byte2(codes: &[u8], from: usize) -> u8
 
 // The byte of the two codes from index `from` on.
 fn full_byte4(codes: &[u8], from: usize) -> u8
-    requires { ⌜ Below 16 (now codes) × (from + 2 ≤ length (now codes)) ⌝ }
+    requires { ⌜ Below 16 (now codes) ⌝ }
+    requires { ⌜ from + 2 ≤ length (now codes) ⌝ }
     ensures { λ r. ⌜ r ≡ byteOf 16 2 (λ k. getD (now (codes .entry)) (from + k) 0) ⌝ }
 {
     byte4(codes[from], codes[from + 1])
@@ -136,7 +143,8 @@ fn full_byte4(codes: &[u8], from: usize) -> u8
 
 // The byte of the last code, at index `from`.
 fn last_byte4(codes: &[u8], from: usize) -> u8
-    requires { ⌜ Below 16 (now codes) × (from + 1 ≡ length (now codes)) ⌝ }
+    requires { ⌜ Below 16 (now codes) ⌝ }
+    requires { ⌜ from + 1 ≡ length (now codes) ⌝ }
     ensures { λ r. ⌜ r ≡ byteOf 16 2 (λ k. getD (now (codes .entry)) (from + k) 0) ⌝ }
 {
     byte4(codes[from], 0)

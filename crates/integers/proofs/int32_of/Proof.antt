@@ -1,5 +1,5 @@
--- `integers::int32_of` meets its contract. Below 2 ^ 31 the number is itself; from there on it is the
--- complement of its distance to 2 ^ 32 - 1. Assumes nothing.
+-- `integers::int32_of` meets its contract. Below 2 ^ 31 the number is itself; from there on it is
+-- the complement of its distance to 2 ^ 32 - 1. Assumes nothing.
 use mathlib.Core.Path.{_≡_, ap}
 use Prim.Native.Nat.{ℕ, _-_, _<_, _^_}
 use native.Mathlib.Omega.{arith}

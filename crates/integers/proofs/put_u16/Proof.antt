@@ -32,12 +32,13 @@ same-length c = search needs
 returns : tie.Need-returns
 unfolding leBytes
 returns c =
-    let x : ℕ = c .args .x in
+    let a = c .args in
+    let x : ℕ = a .x in
     let f : x < 2 ^ 16 = c .fits .x .fits in
     let e : x / 256 ≡ x / 256 % 256 = omega arith in
     rw add-one
-    (ap (λ (high : ℕ). set (set (c .args .out .now) (c .args .at) (x % 256)) (suc (c .args .at)) high) e
-    ∙ sets-pasted (c .args .out .now) (c .args .at) (x % 256 ∷ x / 256 % 256 ∷ []) (omega arith))
+    (ap (λ (high : ℕ). set (set (a .out .now) (a .at) (x % 256)) (suc (a .at)) high) e
+    ∙ sets-pasted (a .out .now) (a .at) (x % 256 ∷ x / 256 % 256 ∷ []) (omega arith))
 
 pub put-u16-spec : {M : Type 1} → statement M
 put-u16-spec =

@@ -1,4 +1,5 @@
--- `packing::full_byte2` meets its contract: every code is narrow enough for its place. Assumes nothing.
+-- `packing::full_byte2` meets its contract: every code is narrow enough for its place.
+-- Assumes nothing.
 use Prim.Native.Nat.{_+_}
 use native.Mathlib.Nat.{add-zero}
 use native.Mathlib.Omega.{arith}
@@ -31,8 +32,10 @@ shared-slice-read-byte2-4 c = search needs
 
 byte2-requires : tie.Need-byte2-requires
 byte2-requires c κs =
-    let from = c .before .before .before .before .before .args .from in
-    let small = below-at (c .before .before .before .before .before .args .codes .now) (omega arith) (c .before .before .before .before .before .pre .0) in
+    let a = c .before .before .before .before .before .args in
+    let from = a .from in
+    let narrow = c .before .before .before .before .before .pre .0 in
+    let small = below-at (a .codes .now) (omega arith) narrow in
     (small from, small (from + 1), small (from + 2), small (from + 3))
 
 returns : tie.Need-returns

@@ -1,4 +1,5 @@
--- `packing::full_byte4` meets its contract: every code is narrow enough for its place. Assumes nothing.
+-- `packing::full_byte4` meets its contract: every code is narrow enough for its place.
+-- Assumes nothing.
 use Prim.Native.Nat.{_+_}
 use native.Mathlib.Nat.{add-zero}
 use native.Mathlib.Omega.{arith}
@@ -19,8 +20,9 @@ shared-slice-read-byte4-2 c = search needs
 
 byte4-requires : tie.Need-byte4-requires
 byte4-requires c κs =
-    let from = c .before .before .before .args .from in
-    let small = below-at (c .before .before .before .args .codes .now) (omega arith) (c .before .before .before .pre .0) in
+    let a = c .before .before .before .args in
+    let from = a .from in
+    let small = below-at (a .codes .now) (omega arith) (c .before .before .before .pre .0) in
     (small from, small (from + 1))
 
 returns : tie.Need-returns

@@ -1,4 +1,5 @@
--- `packing::last_byte2` meets its contract: what is past the last code counts as 0. Assumes nothing.
+-- `packing::last_byte2` meets its contract: what is past the last code counts as 0.
+-- Assumes nothing.
 use Prim.Native.Nat.{_+_}
 use native.Mathlib.Nat.{add-zero}
 use native.Mathlib.Omega.{arith}
@@ -37,7 +38,8 @@ byte2-requires c κs =
 returns : tie.Need-returns
 unfolding byteOf
 returns c =
-    let past = List·getD-eq-default (c .before .before .before .before .before .args .codes .now) 0 {n = c .before .before .before .before .before .args .from + 3} (omega arith) in
+    let a = c .before .before .before .before .before .args in
+    let past = List·getD-eq-default (a .codes .now) 0 {n = a .from + 3} (omega arith) in
     simp add-zero (omega arith)
 
 pub last-byte2-spec : {M : Type 1} → statement M

@@ -1,4 +1,5 @@
--- `packing::last_byte4` meets its contract: what is past the last code counts as 0. Assumes nothing.
+-- `packing::last_byte4` meets its contract: what is past the last code counts as 0.
+-- Assumes nothing.
 use Prim.Native.Nat.{_+_}
 use native.Mathlib.Nat.{add-zero}
 use native.Mathlib.Omega.{arith}
@@ -14,13 +15,15 @@ shared-slice-read-byte4 c = search needs
 
 byte4-requires : tie.Need-byte4-requires
 byte4-requires c κs =
-    let small = below-at (c .before .before .args .codes .now) (omega arith) (c .before .before .pre .0) (c .before .before .args .from) in
+    let a = c .before .before .args in
+    let small = below-at (a .codes .now) (omega arith) (c .before .before .pre .0) (a .from) in
     (omega arith, omega arith)
 
 returns : tie.Need-returns
 unfolding byteOf
 returns c =
-    let past = List·getD-eq-default (c .before .before .before .args .codes .now) 0 {n = c .before .before .before .args .from + 1} (omega arith) in
+    let a = c .before .before .before .args in
+    let past = List·getD-eq-default (a .codes .now) 0 {n = a .from + 1} (omega arith) in
     simp add-zero (omega arith)
 
 pub last-byte4-spec : {M : Type 1} → statement M

@@ -1,18 +1,19 @@
--- `packing::padding_is_zero2` meets its contract: full bytes have no padding; else it is all 0 if the last
--- byte's remainder is. Assumes nothing.
+-- `packing::padding_is_zero2` meets its contract: full bytes have no padding; else it is all 0 if
+-- the last byte's remainder is. Assumes nothing.
 use mathlib.Core.Path.{sym}
-use Prim.Native.Nat.{_*_, ℕ, _-_, _%_}
-use native.Mathlib.Nat.{one-le-pow}
+use Prim.Native.Nat.{_-_, _%_}
 use native.Mathlib.Omega.{arith}
 use borrow.Author.Needs.{needs}
-use Rattle.base.proofs.PackedLaws.{shift-power}
+use Rattle.base.proofs.PackedLaws.{shift-one-some, shift-power}
 use Rattle.base.proofs.PaddingLaws.{padding-none, padding-some}
 use Rattle.base.specs.Packed.{packedLength}
 use Rattle.packing.proofs.padding_is_zero2.Statement.{statement}
 use Rattle.packing.proofs.padding_is_zero2.Tie as tie
 
 returns : tie.Need-returns
-returns c = sym (padding-none 4 4 (omega arith) (omega arith) (c .before .args .s .now) (c .before .args .at) (c .before .args .n) (c .if1 .taken))
+returns c =
+    let a = c .before .args in
+    sym (padding-none 4 4 (omega arith) (omega arith) (a .s .now) (a .at) (a .n) (c .if1 .taken))
 
 add-result : tie.Need-add-result
 add-result c = search needs
@@ -34,16 +35,15 @@ shl-result : tie.Need-shl-result
 shl-result c = search needs
 
 rem-result : tie.Need-rem-result
-rem-result c =
-    let r : ℕ = c .before .before .args .n % 4 in
-    rw (shift-power 2 (4 - r) 8 (8 - 2 * r) (omega arith) (omega (arith, c .before .if1 .left)))
-    (one-le-pow (4 - r) 4 (omega arith))
+rem-result c = shift-one-some 8 _ (omega (arith, c .before .if1 .left))
 
 returns-2 : tie.Need-returns-2
 returns-2 c =
+    let a = c .before .before .args in
+    let left = c .before .if1 .left in
     sym
-    (padding-some 4 4 (omega arith) (omega arith) (c .before .before .args .s .now) (c .before .before .args .at) (c .before .before .args .n) _ (omega (arith, c .before .if1 .left))
-    (shift-power 2 (4 - c .before .before .args .n % 4) 8 _ (omega arith) (omega (arith, c .before .if1 .left))))
+    (padding-some 4 4 (omega arith) (omega arith) (a .s .now) (a .at) (a .n) _ (omega (arith, left))
+    (shift-power 2 (4 - a .n % 4) 8 _ (omega arith) (omega (arith, left))))
 
 pub padding-is-zero2-spec : {M : Type 1} → statement M
 padding-is-zero2-spec =

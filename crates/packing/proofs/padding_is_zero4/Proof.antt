@@ -1,5 +1,5 @@
--- `packing::padding_is_zero4` meets its contract: full bytes have no padding; else it is 0 if the last
--- byte's remainder is. Assumes nothing.
+-- `packing::padding_is_zero4` meets its contract: full bytes have no padding; else it is 0 if the
+-- last byte's remainder is. Assumes nothing.
 use mathlib.Core.Path.{_≡_, ap, sym}
 use Prim.Native.Nat.{ℕ, _-_, _%_, _^_}
 use native.Mathlib.Omega.{arith}
@@ -10,7 +10,9 @@ use Rattle.packing.proofs.padding_is_zero4.Statement.{statement}
 use Rattle.packing.proofs.padding_is_zero4.Tie as tie
 
 returns : tie.Need-returns
-returns c = sym (padding-none 16 2 (omega arith) (omega arith) (c .before .args .s .now) (c .before .args .at) (c .before .args .n) (c .if1 .taken))
+returns c =
+    let a = c .before .args in
+    sym (padding-none 16 2 (omega arith) (omega arith) (a .s .now) (a .at) (a .n) (c .if1 .taken))
 
 add-result : tie.Need-add-result
 add-result c = search needs
@@ -21,9 +23,11 @@ shared-slice-read-result c = omega (arith, c .before .if1 .left)
 
 returns-2 : tie.Need-returns-2
 returns-2 c =
-    let one : 1 ≡ 2 - c .before .before .args .n % 2 = omega (arith, c .before .if1 .left) in
+    let a = c .before .before .args in
+    let left = c .before .if1 .left in
+    let one : 1 ≡ 2 - a .n % 2 = omega (arith, left) in
     sym
-    (padding-some 16 2 (omega arith) (omega arith) (c .before .before .args .s .now) (c .before .before .args .at) (c .before .before .args .n) 16 (omega (arith, c .before .if1 .left))
+    (padding-some 16 2 (omega arith) (omega arith) (a .s .now) (a .at) (a .n) 16 (omega (arith, left))
     (ap (λ (m : ℕ). 16 ^ m) one))
 
 pub padding-is-zero4-spec : {M : Type 1} → statement M

@@ -1,5 +1,6 @@
--- `packing::put_symbols4` meets its contract. The loop's invariant: the buffer is the old one with the first
--- k packed bytes written over it. The last byte, where it is not full, comes after the loop. Assumes nothing.
+-- `packing::put_symbols4` meets its contract. The loop's invariant: the buffer is the old one with
+-- the first k packed bytes written over it. The last byte, where it is not full, comes after the
+-- loop. Assumes nothing.
 use mathlib.Core.Path.{_≡_, sym}
 use Prim.Native.Nat.{_≤_, _-_}
 use native.Mathlib.Omega.{arith}
@@ -22,7 +23,9 @@ abbrev μ-loop : tie.MeasureT-loop
 
 loop-holds : tie.Need-loop-holds Inv-loop μ-loop
 unfolding build
-loop-holds c = (search needs, sym (pasted-nil (c .before .before .args .out .now) (c .before .before .args .at)), search needs)
+loop-holds c =
+    let a = c .before .before .args in
+    (search needs, sym (pasted-nil (a .out .now) (a .at)), search needs)
 
 mul-full-byte4 : tie.Need-mul-full-byte4 Inv-loop μ-loop
 mul-full-byte4 c = search needs
@@ -48,9 +51,10 @@ loop-again : tie.Need-loop-again Inv-loop μ-loop
 unfolding packedLength
 loop-again c =
     let a = c .before .before .before .before .before .args in
-    let l = c .before .before .loop in (
+    let l = c .before .before .loop in
+    let byte = packedByte 16 2 (a .codes .now) in (
       omega arith,
-      pasted-turn (a .out .now) (a .at) (packedByte 16 2 (a .codes .now)) (l .out) (l .k) _ (omega arith) (l .inv .1)
+      pasted-turn (a .out .now) (a .at) byte (l .out) (l .k) _ (omega arith) (l .inv .1)
           (c .full-byte4 .ensures),
       simp length-set (l .inv .2),
     )
@@ -59,7 +63,9 @@ mul-last-byte4 : tie.Need-mul-last-byte4 Inv-loop μ-loop
 mul-last-byte4 c = search needs
 
 last-byte4-requires : tie.Need-last-byte4-requires Inv-loop μ-loop
-last-byte4-requires c κs = (c .before .before .before .before .before .pre .0, omega (arith, c .if1 .taken))
+last-byte4-requires c κs =
+    let small = c .before .before .before .before .before .pre .0 in
+    (small, omega (arith, c .if1 .taken))
 
 add-out-2 : tie.Need-add-out-2 Inv-loop μ-loop
 unfolding packedLength
@@ -76,8 +82,9 @@ returns : tie.Need-returns Inv-loop μ-loop
 returns c =
     let a = c .before .before .before .before .before .before .args in
     let l = c .before .before .before .loop in
-    pasted-pack-partial 16 2 (omega arith) (a .codes .now) (a .out .now) (l .out) (a .at) (l .k) _ (omega arith)
-    (omega (arith, c .before .if1 .taken)) (omega arith) (l .inv .1) (c .last-byte4 .ensures)
+    pasted-pack-partial 16 2 (omega arith) (a .codes .now) (a .out .now) (l .out) (a .at) (l .k) _
+    (omega arith) (omega (arith, c .before .if1 .taken)) (omega arith) (l .inv .1)
+    (c .last-byte4 .ensures)
 
 same-length-2 : tie.Need-same-length-2 Inv-loop μ-loop
 same-length-2 c = search needs
@@ -86,8 +93,8 @@ returns-2 : tie.Need-returns-2 Inv-loop μ-loop
 returns-2 c =
     let a = c .before .before .before .before .before .args in
     let l = c .before .before .loop in
-    pasted-pack-full 16 2 (omega arith) (a .codes .now) (a .out .now) (l .out) (a .at) (l .k) (omega arith)
-    (omega (arith, c .if1 .left)) (l .inv .1)
+    pasted-pack-full 16 2 (omega arith) (a .codes .now) (a .out .now) (l .out) (a .at) (l .k)
+    (omega arith) (omega (arith, c .if1 .left)) (l .inv .1)
 
 pub put-symbols4-spec : {M : Type 1} → statement M
 put-symbols4-spec =

@@ -1,4 +1,5 @@
--- `packing::symbol2` meets its contract: a digit of two bits is a shift, then a remainder. Assumes nothing.
+-- `packing::symbol2` meets its contract: a digit of two bits is a shift, then a remainder.
+-- Assumes nothing.
 use Prim.Native.Nat.{_/_, _%_}
 use native.Mathlib.Omega.{arith}
 use lib.ListN.{getD}
@@ -25,7 +26,9 @@ shr-result c = search needs
 
 returns : tie.Need-returns
 unfolding symbolAt
-returns c = shift-digit 2 4 (getD (c .before .args .s .now) (c .before .args .i / 4) 0) (c .before .args .i % 4) _ (omega arith)
+returns c =
+    let a = c .before .args in
+    shift-digit 2 4 (getD (a .s .now) (a .i / 4) 0) (a .i % 4) _ (omega arith)
 
 pub symbol2-spec : {M : Type 1} → statement M
 symbol2-spec =

@@ -1,4 +1,5 @@
--- `packing::symbol4` meets its contract: a digit of four bits is a shift, then a remainder. Assumes nothing.
+-- `packing::symbol4` meets its contract: a digit of four bits is a shift, then a remainder.
+-- Assumes nothing.
 use Prim.Native.Nat.{_/_, _%_}
 use native.Mathlib.Omega.{arith}
 use lib.ListN.{getD}
@@ -25,7 +26,9 @@ shr-result c = search needs
 
 returns : tie.Need-returns
 unfolding symbolAt
-returns c = shift-digit 4 2 (getD (c .before .args .s .now) (c .before .args .i / 2) 0) (c .before .args .i % 2) _ (omega arith)
+returns c =
+    let a = c .before .args in
+    shift-digit 4 2 (getD (a .s .now) (a .i / 2) 0) (a .i % 2) _ (omega arith)
 
 pub symbol4-spec : {M : Type 1} → statement M
 symbol4-spec =
