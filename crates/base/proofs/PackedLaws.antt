@@ -214,6 +214,14 @@ module _ (base per : ℕ) (someBase : 0 < base) (somePer : 0 < per) where
       (ap (λ (k : ℕ). k / per) split ∙ add-mul-div-right i at somePer ∙ omega arith)
       (ap (λ (k : ℕ). k % per) split ∙ add-mul-mod-self-right i at per)
 
+  -- A symbol that is read from byte `at` on, by its index in the whole list.
+  pub getD-symbolsAt : (list : List ℕ) (at from n j : ℕ) → j < n
+      → getD (symbolsAt base per list at from n) j 0 ≡ symbolAt base per list (at * per + (from + j))
+  unfolding symbolsAt
+  getD-symbolsAt list at from n j h =
+      getD-build n (λ j. digit base per (getD list (at + (from + j) / per) 0) ((from + j) % per)) j 0 h
+      ∙ sym (symbolAt-from list at (from + j))
+
 -- ---- Bytes by the remainder of the number of symbols
 
 -- As many symbols as fill their bytes.

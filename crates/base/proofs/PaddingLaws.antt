@@ -1,6 +1,6 @@
 -- Padding (01, Records): the symbols of the last byte past the last one. They are all 0 exactly if a
 -- remainder of the byte is 0. Over every base and number of symbols a byte. Assumes nothing.
-use mathlib.Core.Path.{_≡_, refl, sym, ap, ap₂, _∙_}
+use mathlib.Core.Path.{_≡_, sym, ap, ap₂, _∙_}
 use Prim.Native.Nat.{ℕ, zero, suc, _+_, _-_, _*_, _/_, _%_, _^_, _≤_, _<_}
 use native.Mathlib.Nat.{
   zero-mul,
