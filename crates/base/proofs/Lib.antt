@@ -6,3 +6,6 @@ pub mod PackedLaws
 pub mod GroupLaws
 pub mod ScanLaws
 pub mod BitLaws
+pub mod PasteLaws
+pub mod PaddingLaws
+pub mod PackedPasteLaws

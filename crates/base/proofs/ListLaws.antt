@@ -1,7 +1,7 @@
 -- Laws of lists by index. Assumes nothing.
 use mathlib.Core.Path.{_≡_, refl, sym, ap, ap₂, _∙_, subst}
 use Prim.Native.Nat.{ℕ, zero, suc, _+_, _-_, _≤_, _<_}
-use native.Mathlib.Nat.{not-suc-le-zero, le-of-suc-le-suc, lt-of-not-le}
+use native.Mathlib.Nat.{add-zero, not-suc-le-zero, le-of-suc-le-suc, lt-of-not-le}
 use native.Mathlib.Decide.{decLe}
 use native.Mathlib.Omega.{arith}
 use mathlib.Core.Bool.{Bool, true, false}
@@ -54,6 +54,11 @@ build-append (suc m) n f =
     ∙ ap (λ (rest : List _). build m (λ k. f (suc k)) ++ rest)
     (build-cong n (λ k. f (suc (m + k))) (λ k. f (suc m + k))
     (λ k h. let z : suc (m + k) ≡ suc m + k = omega arith in ap f z)))
+
+-- One element more.
+pub build-snoc {ℓ} : {A : Type ℓ} (n : ℕ) (f : ℕ → A) → build (n + 1) f ≡ build n f ++ (f n ∷ [])
+unfolding build
+build-snoc n f = build-append n 1 f ∙ ap (λ (x : _). build n f ++ (x ∷ [])) (ap f (add-zero n))
 
 -- ---- Below
 

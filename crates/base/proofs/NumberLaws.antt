@@ -14,15 +14,22 @@ use native.Mathlib.Nat.{
   pow-succ',
   mod-add-div,
   div-lt-iff-lt-mul,
+  div-one,
+  div-div-eq-div-mul,
+  mod-lt,
+  one-le-pow,
   zero-lt-suc,
 }
 use native.Mathlib.Omega.{arith}
 use mathlib.Core.List.{List, [], _∷_, _++_}
 use lib.ListN.{length, getD}
+use lib.Arith.{digits-div, mod-mul}
 use Rattle.base.specs.Lists.{Below, AllBytes}
 use Rattle.base.specs.Numbers.{le, leBytes}
 use Rattle.base.specs.Place.{At}
+use Rattle.base.specs.Paste.{pasted}
 use Rattle.base.proofs.ListLaws.{below-at, below-nil, below-cons}
+use Rattle.base.proofs.PasteLaws.{pasted-then}
 use Rattle.base.proofs.PlaceLaws.{at-head, at-tail, at-cons, at-nil}
 
 pub length-leBytes : (width x : ℕ) → length (leBytes width x) ≡ width
@@ -73,3 +80,41 @@ le-add (suc m) n list i =
     ap (λ (k : ℕ). le k list i) (suc-add m n)
     ∙ ap (λ (k : ℕ). getD list i 0 + 256 * k) (le-add m n list (i + 1))
     ∙ rw (e, pow-succ') (simp (mul-add, mul-assoc, add-assoc))
+
+-- The bytes of a number in m + n bytes are the m lowest and the n of the rest.
+pub leBytes-add : (m n x : ℕ) → leBytes (m + n) x ≡ leBytes m x ++ leBytes n (x / 256 ^ m)
+unfolding leBytes
+leBytes-add zero n x = ap₂ leBytes (zero-add n) (sym (rw (pow-zero, div-one)))
+leBytes-add (suc m) n x =
+    ap (λ (k : ℕ). leBytes k x) (suc-add m n)
+    ∙ ap (λ (rest : List ℕ). x % 256 ∷ rest)
+    (leBytes-add m n (x / 256)
+    ∙ ap (λ (y : ℕ). leBytes m (x / 256) ++ leBytes n y)
+    (div-div-eq-div-mul x 256 (256 ^ m) ∙ ap (λ (y : ℕ). x / y) (sym (pow-succ' 256 m))))
+
+-- Bytes above those that are stored do not matter.
+pub leBytes-mod : (width x : ℕ) → leBytes width (x % 256 ^ width) ≡ leBytes width x
+unfolding leBytes
+leBytes-mod zero x = refl
+leBytes-mod (suc width) x =
+    let high : ℕ = x / 256 % 256 ^ width in
+    let split : x % 256 ^ suc width ≡ high * 256 + x % 256 =
+    ap (λ (y : ℕ). x % y) (pow-suc 256 width)
+    ∙ mod-mul x (one-le-pow width 256 (zero-lt-suc 255)) (zero-lt-suc 255) in
+    ap₂ (λ (low : ℕ) (rest : List ℕ). low ∷ rest)
+    (ap (λ (y : ℕ). y % 256) split ∙ omega arith)
+    (ap (λ (y : ℕ). leBytes width (y / 256)) split
+    ∙ ap (leBytes width) (digits-div high (mod-lt x (zero-lt-suc 255)))
+    ∙ leBytes-mod width (x / 256))
+
+-- Writing a number's low m bytes, and the n of the rest after them, writes the number.
+pub pasted-leBytes : (m n : ℕ) (buffer first second : List ℕ) (at place x low high : ℕ)
+    → at + (m + n) ≤ length buffer → place ≡ at + m → low ≡ x % 256 ^ m → high ≡ x / 256 ^ m
+    → first ≡ pasted buffer at (leBytes m low) → second ≡ pasted first place (leBytes n high) → second ≡ pasted buffer at (leBytes (m + n) x)
+pasted-leBytes m n buffer first second at place x low high room there lower upper one two =
+    let part : List ℕ = leBytes m x in
+    let len : length part ≡ m = length-leBytes m x in
+    pasted-then buffer first second at place part (leBytes n (x / 256 ^ m)) (omega arith) (omega arith)
+    (one ∙ ap (pasted buffer at) (ap (leBytes m) lower ∙ leBytes-mod m x))
+    (two ∙ ap (λ (y : ℕ). pasted first place (leBytes n y)) upper)
+    ∙ ap (pasted buffer at) (sym (leBytes-add m n x))

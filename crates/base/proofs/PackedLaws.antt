@@ -14,7 +14,14 @@ use native.Mathlib.Nat.{
   div-mul-le-self,
   mul-div-cancel,
   mod-lt,
+  mod-eq-of-lt,
   suc-mul,
+  mul-zero,
+  mul-suc,
+  one-mul,
+  add-mul,
+  add-mul-div-right,
+  add-mul-mod-self-right,
   mul-le-mul-right,
   zero-add,
 }
@@ -22,9 +29,10 @@ use native.Mathlib.Omega.{arith}
 use mathlib.Core.List.{List, [], _∷_, _++_}
 use lib.ListN.{length, getD, length-append}
 use lib.Seq.{ext-getD}
+use lib.Pow.{pow-add, pow-lt, pow-pos}
 use lib.Arith.{digits-lt, digits-div, digits-mod}
 use Rattle.base.specs.Lists.{build, part, Below}
-use Rattle.base.specs.Packed.{digit, byteOf, packedLength, pack, symbolsAt}
+use Rattle.base.specs.Packed.{digit, byteOf, packedLength, symbolAt, pack, symbolsAt}
 use Rattle.base.specs.Place.{At}
 use Rattle.base.proofs.ListLaws.{
   by-order,
@@ -195,3 +203,69 @@ module _ (base per : ℕ) (someBase : 0 < base) (somePer : 0 < per) where
       ∙ ap (λ (back : List ℕ). build n (λ j. digit base per (getD list (at + (0 + j) / per) 0) ((0 + j) % per)) ++ back)
       (build-cong k _ _
       (λ j h. ap (λ (i : ℕ). digit base per (getD list (at + i / per) 0) (i % per)) (zero-add (n + j))))
+
+  -- A symbol from byte `at` on, by its index in the whole list.
+  pub symbolAt-from : (list : List ℕ) (at i : ℕ)
+      → symbolAt base per list (at * per + i) ≡ digit base per (getD list (at + i / per) 0) (i % per)
+  unfolding symbolAt
+  symbolAt-from list at i =
+      let split : at * per + i ≡ i + at * per = omega arith in
+      ap₂ (λ (u v : ℕ). digit base per (getD list u 0) v)
+      (ap (λ (k : ℕ). k / per) split ∙ add-mul-div-right i at somePer ∙ omega arith)
+      (ap (λ (k : ℕ). k % per) split ∙ add-mul-mod-self-right i at per)
+
+  -- A symbol that is read from byte `at` on, by its index in the whole list.
+  pub getD-symbolsAt : (list : List ℕ) (at from n j : ℕ) → j < n
+      → getD (symbolsAt base per list at from n) j 0 ≡ symbolAt base per list (at * per + (from + j))
+  unfolding symbolsAt
+  getD-symbolsAt list at from n j h =
+      getD-build n (λ j. digit base per (getD list (at + (from + j) / per) 0) ((from + j) % per)) j 0 h
+      ∙ sym (symbolAt-from list at (from + j))
+
+-- ---- Bytes by the remainder of the number of symbols
+
+-- As many symbols as fill their bytes.
+pub packedLength-full : (per n : ℕ) → 0 < per → n % per ≡ 0 → packedLength per n ≡ n / per
+packedLength-full per n some full =
+    ap (packedLength per) (sym (div-add-mod' n per) ∙ omega arith) ∙ packedLength-whole per (n / per) some
+
+-- The last byte is not full.
+pub packedLength-partial : (per n : ℕ) → 0 < per → 0 < n % per → packedLength per n ≡ n / per + 1
+unfolding packedLength
+packedLength-partial per n some left =
+    let rest : n % per - 1 < per = omega (arith, mod-lt n some) in
+    let split : n + (per - 1) ≡ (n / per + 1) * per + (n % per - 1) =
+    omega (arith, div-add-mod' n per, add-mul (n / per) 1 per, one-mul per) in
+    ap (λ (k : ℕ). k / per) split ∙ digits-div (n / per + 1) rest
+
+-- ---- Digits by shifts
+
+-- A power of a power of two.
+pub pow-pow : (bits n : ℕ) → 2 ^ (bits * n) ≡ (2 ^ bits) ^ n
+pow-pow bits zero = ap (λ (m : ℕ). 2 ^ m) (mul-zero bits) ∙ sym (pow-zero (2 ^ bits))
+pow-pow bits (suc n) =
+    ap (λ (m : ℕ). 2 ^ m) (mul-suc bits n)
+    ∙ pow-add 2 (bits * n) bits
+    ∙ ap (λ (m : ℕ). m * 2 ^ bits) (pow-pow bits n)
+    ∙ sym (pow-suc (2 ^ bits) n)
+
+-- A digit of so many bits is a shift, then a remainder.
+pub shift-digit : (bits per x k shift : ℕ) → shift ≡ bits * (per - suc k)
+    → x / 2 ^ shift % 2 ^ bits ≡ digit (2 ^ bits) per x k
+unfolding digit
+shift-digit bits per x k shift e =
+    ap (λ (y : ℕ). x / y % 2 ^ bits) (ap (λ (m : ℕ). 2 ^ m) e ∙ pow-pow bits (per - suc k))
+
+-- A one shifted is a power of two, where it fits the width.
+pub shift-one : (width shift : ℕ) → shift < width → (1 * 2 ^ shift) % 2 ^ width ≡ 2 ^ shift
+shift-one width shift fits =
+    ap (λ (y : ℕ). y % 2 ^ width) (one-mul (2 ^ shift)) ∙ mod-eq-of-lt (pow-lt fits)
+
+pub shift-one-some : (width shift : ℕ) → shift < width → 0 < (1 * 2 ^ shift) % 2 ^ width
+shift-one-some width shift fits = rw (shift-one width shift fits) (pow-pos shift)
+
+-- A one shifted by so many digits is a power of the base.
+pub shift-power : (bits count width shift : ℕ) → shift ≡ bits * count → shift < width
+    → (1 * 2 ^ shift) % 2 ^ width ≡ (2 ^ bits) ^ count
+shift-power bits count width shift e fits =
+    shift-one width shift fits ∙ ap (λ (m : ℕ). 2 ^ m) e ∙ pow-pow bits count

@@ -75,7 +75,7 @@ test-below bound (x ∷ xs) e =
     let both = and-both (ltb x bound) (belowTest bound xs) e in
     below-cons x xs (ltb-true x bound (both .0)) (test-below bound xs (both .1))
 
--- Neither of two lists has an element of which the test holds.
+-- Some element of two lists together: one of the first or one of the second.
 pub any-append {ℓ} : {A : Type ℓ} (test : A → Bool) (front back : List A) → any test (front ++ back) ≡ any test front || any test back
 unfolding any
 any-append test [] back = refl

@@ -5,3 +5,4 @@ pub mod Groups
 pub mod Faults
 pub mod Place
 pub mod Scan
+pub mod Paste
