@@ -5,6 +5,11 @@ use mathlib.Core.Bool.{cond}
 use mathlib.Core.List.{List, [], _∷_}
 use Rattle.base.specs.Faults.{Fault}
 
+-- The number of the first fault that fits, or 0.
+unfoldable pub firstNumber : (faults : List Fault) → ℕ
+firstNumber [] = 0
+firstNumber (fault ∷ faults) = cond (fault .fits) (fault .number) (firstNumber faults)
+
 pub data Scan (A : Type 0) : Type 0 where
   found : (value : A) (next : ℕ) → Scan A
   refused : (number : ℕ) → Scan A

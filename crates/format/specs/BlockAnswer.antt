@@ -4,13 +4,14 @@
 -- looked at.
 use Prim.Native.Nat.{ℕ, _+_}
 use mathlib.Core.Bool.{Bool, true, cond, _&&_, _||_}
-use mathlib.Core.List.{List, [], _∷_, _++_, flatten}
-use lib.ListN.{length, drop, replicate}
+use mathlib.Core.List.{List, [], _∷_, flatten}
+use lib.ListN.{length, replicate}
 use lib.IntN.{ℤ, pos, negsuc}
 use lib.Dec.{ltb, eqb}
 use Rattle.base.specs.Lists.{any}
 use Rattle.base.specs.Numbers.{nonNegative}
 use Rattle.base.specs.Faults.{Fault, fault}
+use Rattle.base.specs.Paste.{pasted}
 use Rattle.base.specs.Scan.{Scan, found, refused, checked}
 use Rattle.dna.specs.Reference.{referenceSizeWrong}
 use Rattle.dna.specs.Sizes.{lengthInvalid}
@@ -141,18 +142,14 @@ unfoldable pub decoded : (bases : ℕ) (reference input letters ends : List ℕ)
 decoded bases reference input letters ends =
     blockOutcome bases reference input (decodeAnswer bases reference input letters ends)
 
--- A buffer that gets some values at its front; what lies past them is untouched.
-unfoldable pub filled : (values buffer : List ℕ) → List ℕ
-filled values buffer = values ++ drop (length values) buffer
-
 -- The letters buffer after an answer: the letters of the reads one after the other, or as it was.
 unfoldable pub lettersAfter : (reference : List ℕ) (bases : ℕ) (answer : BlockAnswer) (letters : List ℕ) → List ℕ
-lettersAfter reference bases (accepts divided) letters = filled (flatten (blockReads reference bases divided)) letters
+lettersAfter reference bases (accepts divided) letters = pasted letters 0 (flatten (blockReads reference bases divided))
 lettersAfter reference bases (refuses number read) letters = letters
 
 -- The ends buffer after an answer: the end of each read, counted in letters, or as it was.
 unfoldable pub endsAfter : (answer : BlockAnswer) (ends : List ℕ) → List ℕ
-endsAfter (accepts divided) ends = filled (readEnds (divided .lengths)) ends
+endsAfter (accepts divided) ends = pasted ends 0 (readEnds (divided .lengths))
 endsAfter (refuses number read) ends = ends
 
 -- The letters buffer and the ends buffer after decoding.

@@ -8,6 +8,7 @@ use mathlib.Core.Bool.{Bool, true, false, _&&_, _||_}
 use mathlib.Core.List.{List, [], _∷_, _++_, map, flatten}
 use lib.ListN.{length, drop}
 use lib.Dec.{leb, eqb}
+use Rattle.base.specs.Paste.{pasted}
 use Rattle.base.specs.Lists.{total, placesFrom, All, Begins, Below, AllBytes}
 use Rattle.dna.specs.Reference.{ReferenceFits}
 use Rattle.dna.specs.Sizes.{lengthInvalid}
@@ -32,7 +33,6 @@ use Rattle.format.specs.Outcome.{Outcome, acceptedBlock, acceptedFile, m
 use Rattle.format.specs.BlockAnswer.{
   validatedBlock,
   decoded,
-  filled,
   decodedLetters,
   decodedEnds,
 }
@@ -101,8 +101,8 @@ pub record Decodes (bases : ℕ) (reference block input letters ends : List ℕ)
   pub outcome : decoded bases reference input letters ends
       ≡ acceptedBlock (length block) (blockCounts reference bases divided)
   pub letters-are : decodedLetters bases reference input letters ends
-      ≡ filled (flatten (blockReads reference bases divided)) letters
-  pub ends-are : decodedEnds bases reference input letters ends ≡ filled (readEnds (divided .lengths)) ends
+      ≡ pasted letters 0 (flatten (blockReads reference bases divided))
+  pub ends-are : decodedEnds bases reference input letters ends ≡ pasted ends 0 (readEnds (divided .lengths))
 
 pub record ReadsBlocks (bases : ℕ) (reference : List ℕ) : Type 0 where
   -- A block is accepted exactly if the input begins with a well-formed one and there is room.
@@ -163,7 +163,7 @@ pub record Writes (bases : ℕ) (reference : List ℕ) (reads : List (List ℕ))
   pub outcome : (out : List ℕ) → length (blockOf bases reference input) ≤ length out
       → encoded bases reference input out ≡ acceptedBlock (length (blockOf bases reference input)) zeroCounts
   pub buffer : (out : List ℕ) → length (blockOf bases reference input) ≤ length out
-      → encodedBuffer bases reference input out ≡ filled (blockOf bases reference input) out
+      → encodedBuffer bases reference input out ≡ pasted out 0 (blockOf bases reference input)
   -- The block is well-formed, and the records of its division are the fixed rule's.
   pub wellFormed : WellFormed bases (blockOf bases reference input)
   pub division : (divided : BlockDivision) → DividesBlock bases (blockOf bases reference input) divided
@@ -173,9 +173,9 @@ pub record Writes (bases : ℕ) (reference : List ℕ) (reads : List (List ℕ))
   pub reads-back : (rest letters ends : List ℕ) → total (map length reads) ≤ length letters → length reads ≤ length ends
       → (decoded bases reference (blockOf bases reference input ++ rest) letters ends
       ≡ acceptedBlock (length (blockOf bases reference input)) (ruleCounts bases reference (codesOf reads) (candidatesOf input)))
-      × (decodedLetters bases reference (blockOf bases reference input ++ rest) letters ends ≡ filled (flatten reads) letters)
+      × (decodedLetters bases reference (blockOf bases reference input ++ rest) letters ends ≡ pasted letters 0 (flatten reads))
       × (decodedEnds bases reference (blockOf bases reference input ++ rest) letters ends
-      ≡ filled (placesFrom 0 (map length reads)) ends)
+      ≡ pasted ends 0 (placesFrom 0 (map length reads)))
 
 abbrev pub Demand2Writing : Type 0
 Demand2Writing =

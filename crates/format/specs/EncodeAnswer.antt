@@ -7,12 +7,13 @@ use lib.ListN.{length, getD, drop}
 use lib.Dec.{ltb, eqb}
 use Rattle.base.specs.Lists.{build, part, any, member, stepsFrom}
 use Rattle.base.specs.Faults.{Fault, fault}
+use Rattle.base.specs.Paste.{pasted}
+use Rattle.base.specs.Scan.{firstNumber}
 use Rattle.dna.specs.Counts.{zeroCounts}
 use Rattle.dna.specs.Reference.{referenceSizeWrong}
 use Rattle.dna.specs.Sizes.{lengthInvalid}
 use Rattle.format.specs.HeaderFaults.{maxReads}
 use Rattle.format.specs.Outcome.{Outcome, refusal, acceptedBlock}
-use Rattle.format.specs.BlockAnswer.{filled}
 use Rattle.format.specs.FixedRule.{Candidate, codeOfLetter, ruleBlock}
 
 -- What the caller lends to the writer: letters in ASCII, the ends of the reads, and four buffers of proposals.
@@ -82,11 +83,6 @@ encodeFaults bases reference input room =
     ∷ fault 34 (ltb room (length (blockOf bases reference input)))
     ∷ []
 
--- The first fault that fits, or 0.
-unfoldable pub firstNumber : (faults : List Fault) → ℕ
-firstNumber [] = 0
-firstNumber (fault ∷ faults) = cond (fault .fits) (fault .number) (firstNumber faults)
-
 -- The number that encoding answers.
 unfoldable pub encodeNumber : (bases : ℕ) (reference : List ℕ) (input : EncodeInput) (out : List ℕ) → ℕ
 encodeNumber bases reference input out = firstNumber (encodeFaults bases reference input (length out))
@@ -101,4 +97,4 @@ encoded bases reference input out =
 -- The lent buffer: the block, and what it held past it; or as it was.
 unfoldable pub encodedBuffer : (bases : ℕ) (reference : List ℕ) (input : EncodeInput) (out : List ℕ) → List ℕ
 encodedBuffer bases reference input out =
-    cond (eqb (encodeNumber bases reference input out) 0) (filled (blockOf bases reference input) out) out
+    cond (eqb (encodeNumber bases reference input out) 0) (pasted out 0 (blockOf bases reference input)) out
