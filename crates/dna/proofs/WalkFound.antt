@@ -155,16 +155,16 @@ groups-found bases read previous (ours ∷ lengths) (nByte ∷ nSection) {list} 
       ends = omega (arith, same .1, more .ends, f .ends, length-append (groupBytes group) (divisionBytes gs));
     })))
 
--- A walk that ends at the section's end found a division that meets the rules.
-pub walk-divides : (bases : ℕ) (lengths nSection dna : List ℕ) (division : Division) → AllBytes dna
-    → length nSection ≡ groupCount (length lengths) → sectionWalk bases lengths nSection dna ≡ walked division (length dna)
+-- A walk that leaves no byte of the section over found a division that meets the rules.
+pub walk-divides : (bases : ℕ) (lengths nSection dna : List ℕ) (division : Division) (end : ℕ) → AllBytes dna
+    → length nSection ≡ groupCount (length lengths) → sectionWalk bases lengths nSection dna ≡ walked division end → length dna ≤ end
     → Divides bases lengths nSection dna division
 unfolding sectionWalk readsOf
-walk-divides bases lengths nSection dna division bytes n e =
-    let f : GroupsFound bases 0 (inGroups lengths) nSection dna 0 division (length dna)
+walk-divides bases lengths nSection dna division end bytes n e left =
+    let f : GroupsFound bases 0 (inGroups lengths) nSection dna 0 division end
     = groups-found bases 0 0 (inGroups lengths) nSection 0 bytes (n ∙ sym (length-inGroups lengths)) (omega arith) e in
     record {
-      bytes = at-same (divisionBytes division) dna (omega (arith, f .ends)) (f .stands) (at-self dna);
+      bytes = at-same (divisionBytes division) dna (omega (arith, f .ends, f .stands .fits)) (f .stands) (at-self dna);
       groups = f .meet;
       records = f .reads;
     }
