@@ -153,3 +153,11 @@ unfolding inGroups
 inGroups-small list =
     all-build (λ group. length group ≤ 8) (groupCount (length list)) (λ g. part list (8 * g) 8)
     (λ g h. rw length-take (omega arith))
+
+-- No group is empty.
+pub inGroups-some {ℓ} : {A : Type ℓ} (list : List A) → All (λ group. 0 < length group) (inGroups list)
+inGroups-some {A} =
+    by-groups (λ (list : List A). All (λ group. 0 < length group) (inGroups list))
+    (subst (λ (groups : List (List A)). All (λ group. 0 < length group) groups) (sym inGroups-nil) tt)
+    (λ x xs ih.
+    subst (λ (groups : List (List A)). All (λ group. 0 < length group) groups) (sym (inGroups-cons x xs)) (omega arith, ih))

@@ -9,7 +9,7 @@ use mathlib.Core.List.{List, [], _∷_, _++_, map, flatMap, flatten, append-nil}
 use lib.ListN.{length, getD, length-append, length-map, length-take, length-drop, List·getD-map, List·getD-eq-default}
 use lib.Dec.{leb, ltb, eqb}
 use borrow.Author.Tests.{le-ltb, lt-leb, ltb-false, leb-false}
-use Rattle.base.specs.Lists.{any, AllBytes, All}
+use Rattle.base.specs.Lists.{any, total, AllBytes, All}
 use Rattle.base.specs.Groups.{groupCount, inGroups, groupSizes, byteBitStray}
 use Rattle.base.specs.Packed.{bit, byteOf}
 use Rattle.base.specs.Place.{At}
@@ -23,6 +23,7 @@ use Rattle.base.proofs.GroupLaws.{
   sizes-inGroups,
   inGroups-unique,
   inGroups-small,
+  total-groupSizes,
 }
 use Rattle.base.proofs.Tests.{absurd-test, or-neither, neither-or}
 use Rattle.base.proofs.ScanLaws.{found-same, absurd-found, checked-none, checked-found, andThen-found, andThen-parts, cond-yes, cond-no, cond-parts}
@@ -379,3 +380,39 @@ answer-sizes n section lengths end bytes e =
       };
       counted = ap length (sym (eq .0)) ∙ length-lengthsFrom 0 stored ∙ ap length (sym (f .whole)) ∙ unique .0;
     })
+
+-- ---- How many lengths there are, whatever the section holds
+
+stored-count : (count sameByte sizeByte place : ℕ) (list : List ℕ) (at : ℕ) (group : List StoredSize) (next : ℕ)
+    → storedSizesAt count sameByte sizeByte place list at ≡ found group next → length group ≡ count
+unfolding storedSizesAt
+stored-count zero sameByte sizeByte place list at group next e = ap length (sym (found-same e .0))
+stored-count (suc count) sameByte sizeByte place list at group next e =
+    let ih : (m : ℕ) (g : List StoredSize) (j : ℕ) → storedSizesAt count sameByte sizeByte (suc place) list m ≡ found g j → length g ≡ count
+    = λ m g j. stored-count count sameByte sizeByte (suc place) list m g j in
+    andThen-parts (storedAt (bit sameByte place) (bit sizeByte place) list at) _ e (λ stored m e₁ e₂.
+    andThen-parts (storedSizesAt count sameByte sizeByte (suc place) list m) _ e₂ (λ rest j e₃ e₄.
+    ap length (sym (found-same e₄ .0)) ∙ ap suc (ih m rest j e₃)))
+
+groups-count : (counts list : List ℕ) (at : ℕ) (stored : List StoredSize) (next : ℕ) → sizeGroupsAt counts list at ≡ found stored next
+    → length stored ≡ total counts
+unfolding sizeGroupsAt sizeGroupAt total
+groups-count [] list at stored next e = ap length (sym (found-same e .0))
+groups-count (count ∷ counts) list at stored next e =
+    let ih : (m : ℕ) (s : List StoredSize) (j : ℕ) → sizeGroupsAt counts list m ≡ found s j → length s ≡ total counts
+    = λ m s j. groups-count counts list m s j in
+    andThen-parts (sizeGroupAt count list at) _ e (λ group m e₁ e₂.
+    andThen-parts (sizeGroupsAt counts list m) _ e₂ (λ rest j e₃ e₄.
+    let one : length group ≡ count =
+    stored-count count (getD list at 0) (getD list (at + 1) 0) 0 list (at + 2) group m (checked-found _ _ e₁ .1) in
+    ap length (sym (found-same e₄ .0)) ∙ length-append group rest ∙ ap₂ (λ (a b : ℕ). a + b) one (ih m rest j e₃)))
+
+-- The answer has as many lengths as there are reads.
+pub sizes-count : (n : ℕ) (section lengths : List ℕ) (end : ℕ) → sizesAnswer n section ≡ found lengths end → length lengths ≡ n
+unfolding sizesAnswer
+sizes-count n section lengths end e =
+    andThen-parts (sizeGroupsAt (groupSizes n) section 0) _ e (λ stored m e₁ e₂.
+    ap length (sym (found-same (checked-found _ _ e₂ .1) .0))
+    ∙ length-lengthsFrom 0 stored
+    ∙ groups-count (groupSizes n) section 0 stored m e₁
+    ∙ total-groupSizes n)

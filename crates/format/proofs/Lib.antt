@@ -1,2 +1,3 @@
 pub mod HeaderLaws
 pub mod BlockLaws
+pub mod AnswerNumbers
