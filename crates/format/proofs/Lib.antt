@@ -1,3 +1,5 @@
 pub mod HeaderLaws
 pub mod BlockLaws
 pub mod AnswerNumbers
+pub mod RefusedNothing
+pub mod ReadsExactly
