@@ -105,15 +105,28 @@ nList-own context list at =
 judged-own : (context : ReadContext) (list : List ℕ) (at : ℕ) (fields : RecordFields) → ScanOwn (judgedAt context list at fields)
 unfolding judgedAt fieldFaults
 judged-own context list at fields =
-    checked-own _ _
-    (own 12 (omega arith) (omega arith),
-    (own 13 (omega arith) (omega arith),
-    (own 16 (omega arith) (omega arith),
-    (own 15 (omega arith) (omega arith),
-    (own 17 (omega arith) (omega arith),
-    (own 18 (omega arith) (omega arith),
-    (own 19 (omega arith) (omega arith),
-    (own 20 (omega arith) (omega arith), tt))))))))
+    checked-own _ _ (
+      own 12 (omega arith) (omega arith),
+      (
+        own 13 (omega arith) (omega arith),
+        (
+          own 16 (omega arith) (omega arith),
+          (
+            own 15 (omega arith) (omega arith),
+            (
+              own 17 (omega arith) (omega arith),
+              (
+                own 18 (omega arith) (omega arith),
+                (
+                  own 19 (omega arith) (omega arith),
+                  (own 20 (omega arith) (omega arith), tt),
+                ),
+              ),
+            ),
+          ),
+        ),
+      ),
+    )
     tt
 
 fields-own : (context : ReadContext) (list : List ℕ) (at : ℕ) → ScanOwn (fieldsAt context list at)

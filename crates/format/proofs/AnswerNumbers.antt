@@ -53,7 +53,7 @@ stage-own last reads [] rest h a = a
 stage-own last reads (f ∷ fs) rest h a =
     let go : (t : Bool) → AnswerOwn last reads (cond t (refuses (f .number) 0) (stage fs rest))
     = λ t. elim t [
-        true ↦ record { least = h .0 .0; most = h .0 .1; index = λ z. absurd (omega arith) }
+      | true ↦ record { least = h .0 .0; most = h .0 .1; index = λ z. absurd (omega arith) }
       | false ↦ stage-own last reads fs rest (h .1) a
     ] in
     go (f .fits)
@@ -97,15 +97,28 @@ pub block-own : (bases : ℕ) (reference input : List ℕ) → AnswerOwn 21 (rea
 unfolding blockAnswer headerFaults lengthFaults
 block-own bases reference input =
     let reads : ℕ = readCount (headerOf input) in
-    stage-own 21 reads _ _
-    ((omega arith, omega arith)
-    , ((omega arith, omega arith)
-    , ((omega arith, omega arith)
-    , ((omega arith, omega arith)
-    , ((omega arith, omega arith)
-    , ((omega arith, omega arith)
-    , ((omega arith, omega arith)
-    , ((omega arith, omega arith), tt))))))))
+    stage-own 21 reads _ _ (
+      (omega arith, omega arith),
+      (
+        (omega arith, omega arith),
+        (
+          (omega arith, omega arith),
+          (
+            (omega arith, omega arith),
+            (
+              (omega arith, omega arith),
+              (
+                (omega arith, omega arith),
+                (
+                  (omega arith, omega arith),
+                  ((omega arith, omega arith), tt),
+                ),
+              ),
+            ),
+          ),
+        ),
+      ),
+    )
     (lengthsStage-own 21 reads (lengthsAnswer input) _ (omega arith) (λ lengths next e.
     stage-own 21 reads _ _ ((omega arith, omega arith), ((omega arith, omega arith), tt))
     (dnaStage-own reads (length (sectionOf input dnaNumber))

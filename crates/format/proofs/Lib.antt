@@ -3,3 +3,4 @@ pub mod BlockLaws
 pub mod AnswerNumbers
 pub mod RefusedNothing
 pub mod ReadsExactly
+pub mod JudgesFiles

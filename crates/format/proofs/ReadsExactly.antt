@@ -1,6 +1,6 @@
 -- Demand 2, reading: a well-formed block gives exactly the letters, lengths and counts defined, and no other block
 -- is accepted. Assumes nothing.
-mod Answers
+pub mod Answers
 use mathlib.Core.Path.{_≡_, refl, sym, ap, _∙_, subst}
 use Prim.Native.Nat.{ℕ}
 use mathlib.Core.Logic.{_↔_}
@@ -19,23 +19,25 @@ use Answers.{decodes, block-counts, Decoded, decoded-zero, validated-zero}
 pub demand-2-reading : Demand2Reading
 demand-2-reading bases reference fits =
     record {
-      accepted = λ input letters ends bytes.
-          (λ zero′.
-          let d : Decoded bases reference input letters ends = decoded-zero bases reference input letters ends zero′ in
-          let f = first-block bases input (d .divided) bytes (block-found bases reference input (d .divided) bytes (d .answered)) in
-          record { block = f .block; rest = f .rest; begins = f .begins; wellFormed = f .wellFormed; room = rw (f .is) (d .room) },
-          λ r.
-          subst (λ (x : List ℕ). decoded bases reference x letters ends .number ≡ 0) (sym (r .begins))
-          (ap (λ o. o .number)
-          (decodes bases reference (r .block) (r .rest) letters ends (r .wellFormed .divided) fits (r .wellFormed) (r .wellFormed .divides) (r .room) .outcome)));
+      accepted = λ input letters ends bytes. (
+        λ zero′.
+            let d : Decoded bases reference input letters ends = decoded-zero bases reference input letters ends zero′ in
+            let f = first-block bases input (d .divided) bytes (block-found bases reference input (d .divided) bytes (d .answered)) in
+            record { block = f .block; rest = f .rest; begins = f .begins; wellFormed = f .wellFormed; room = rw (f .is) (d .room) },
+        λ r.
+            subst (λ (x : List ℕ). decoded bases reference x letters ends .number ≡ 0) (sym (r .begins))
+            (ap (λ o. o .number)
+            (decodes bases reference (r .block) (r .rest) letters ends (r .wellFormed .divided) fits (r .wellFormed) (r .wellFormed .divides) (r .room) .outcome)),
+      );
       gives = λ block rest letters ends divided wf d room. decodes bases reference block rest letters ends divided fits wf d room;
-      validates = λ input bytes.
-          (λ zero′.
-          let d = validated-zero bases reference input zero′ in
-          let f = first-block bases input (d .0) bytes (block-found bases reference input (d .0) bytes (d .1)) in
-          (f .block, f .rest, f .begins, f .wellFormed),
-          λ r.
-          subst (λ (x : List ℕ). validatedBlock bases reference x .number ≡ 0) (sym (r .2))
-          (ap (λ o. o .number) (block-counts bases reference (r .0) (r .1) (r .3 .divided) fits (r .3) (r .3 .divides))));
+      validates = λ input bytes. (
+        λ zero′.
+            let d = validated-zero bases reference input zero′ in
+            let f = first-block bases input (d .0) bytes (block-found bases reference input (d .0) bytes (d .1)) in
+            (f .block, f .rest, f .begins, f .wellFormed),
+        λ r.
+            subst (λ (x : List ℕ). validatedBlock bases reference x .number ≡ 0) (sym (r .2))
+            (ap (λ o. o .number) (block-counts bases reference (r .0) (r .1) (r .3 .divided) fits (r .3) (r .3 .divides))),
+      );
       counts = λ block rest divided wf d. block-counts bases reference block rest divided fits wf d;
     }

@@ -62,10 +62,11 @@ unfolding roomAnswer any
 accepts-room reference bases letterRoom endRoom (accepts found) divided e =
     let parts = stage-accepts _ _ e in
     let few = or-neither (ltb letterRoom (length (flatten (blockReads reference bases found))) || ltb endRoom (length (found .lengths))) _ (parts .0) in
-    let both = or-neither (ltb letterRoom (length (flatten (blockReads reference bases found)))) _ (few .0) in
-    (parts .1,
-    subst (λ (d : BlockDivision). Room reference bases letterRoom endRoom d) (accepts-same (parts .1))
-    (record { letters = ltb-false letterRoom _ (both .0); ends = ltb-false endRoom _ (both .1) }))
+    let both = or-neither (ltb letterRoom (length (flatten (blockReads reference bases found)))) _ (few .0) in (
+      parts .1,
+      subst (λ (d : BlockDivision). Room reference bases letterRoom endRoom d) (accepts-same (parts .1))
+          (record { letters = ltb-false letterRoom _ (both .0); ends = ltb-false endRoom _ (both .1) }),
+    )
 accepts-room reference bases letterRoom endRoom (refuses number read) divided e = absurd-accepts e
 
 -- ---- Well-formed, then decoded

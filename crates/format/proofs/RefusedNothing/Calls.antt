@@ -134,7 +134,7 @@ unfolding fileAnswer
 file-own bases reference file =
     let go : (t : Bool) → FileOwn file (cond t (refusesFile 1 0 0) (blocksAnswer (length file) bases reference file))
     = λ t. elim t [
-        true ↦ (0, record { least = omega arith; most = omega arith; index = λ z. absurd (omega arith) })
+      | true ↦ (0, record { least = omega arith; most = omega arith; index = λ z. absurd (omega arith) })
       | false ↦ blocks-own (length file) bases reference file
     ] in
     go (referenceSizeWrong bases reference)
@@ -183,14 +183,17 @@ encode-refuses bases reference input out some =
     let go : (t : Bool) → (t ≡ false → 0 < number) → 0 < cond t done stop .number
     → Refusal writersOwn 0 (cond t done stop) × (cond t done stop .block ≡ 0) × (cond t full out ≡ out)
     = λ t. elim t [
-        true ↦ λ n s. absurd (omega arith)
-      | false ↦ λ n s.
-        (record {
+      | true ↦ λ n s. absurd (omega arith)
+      | false ↦ λ n s. (
+        record {
           own-number = encode-number bases reference input out (n refl);
           no-blocks = refl;
           no-bytes = refl;
           no-counts = refl;
           read-index = λ z. absurd (omega arith);
-        }, refl, refl)
+        },
+        refl,
+        refl,
+      )
     ] in
     go (eqb number 0) (λ e. omega (arith, eqb-false number 0 e)) some

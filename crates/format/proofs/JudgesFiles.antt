@@ -1,0 +1,36 @@
+-- Demand 3: judging files. Assumes nothing.
+pub mod Blocks
+mod Prefixes
+use mathlib.Core.Path.{_≡_, refl, sym, ap, ap₂, _∙_, subst}
+use Prim.Native.Nat.{ℕ, _≤_}
+use native.Mathlib.Omega.{arith}
+use mathlib.Core.Logic.{_↔_}
+use mathlib.Core.List.{List, [], _∷_, _++_}
+use lib.ListN.{length}
+use Rattle.base.specs.Lists.{AllBytes}
+use Rattle.dna.specs.Reference.{ReferenceFits}
+use Rattle.dna.proofs.OneDivision.{one-division}
+use Rattle.format.specs.Sections.{sectionOf, dnaNumber, nNumber}
+use Rattle.format.specs.Demands.{Demand3}
+use Blocks.{file-answer, FileFound, file-found, one-list, own-divisions}
+use Prefixes.{prefix}
+
+-- One claim about every reference, file and list of blocks. Judging accepts exactly the files joined from
+-- well-formed blocks; that list is unique; the answer is its number and the sums modulo 2 ^ 64, whatever divisions
+-- of the blocks are taken; a prefix of a file has a prefix of its blocks, cuts and reads; and inside a block the
+-- division of the DNA section is unique.
+pub demand-3 : Demand3
+demand-3 bases reference fits =
+    record {
+      accepted = λ file bytes. (
+        λ zero′.
+            let f : FileFound bases reference file = file-found bases reference file fits bytes zero′ in
+            (f .blocks, f .wellFormed, f .joined),
+        λ r. ap (λ o. o .number) (file-answer bases reference file (r .0) (own-divisions bases (r .0) (r .1) .0) fits (r .1) (r .2) (own-divisions bases (r .0) (r .1) .1)),
+      );
+      one-list = λ file bs cs wfs wgs j k. one-list bases bs cs wfs wgs (j ∙ sym k);
+      answer = λ file blocks ds wfs j d. file-answer bases reference file blocks ds fits wfs j d;
+      prefixes = λ front whole bytes zf zw begins bs cs wfs wgs j k. prefix bases reference front whole bs cs wfs wgs j k begins;
+      one-division = λ block lengths one other wf are d e.
+          one-division bases lengths (sectionOf block nNumber) (sectionOf block dnaNumber) one other d e;
+    }
