@@ -8,6 +8,7 @@ pub mod FieldLaws
 pub mod SizesFind
 pub mod RecordFinds
 pub mod RecordFound
+pub mod RulesMean
 pub mod WalkLaws
 pub mod WalkFinds
 pub mod WalkFound

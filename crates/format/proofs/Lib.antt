@@ -4,3 +4,4 @@ pub mod AnswerNumbers
 pub mod RefusedNothing
 pub mod ReadsExactly
 pub mod JudgesFiles
+pub mod ExamplesHold

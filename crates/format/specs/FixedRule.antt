@@ -107,11 +107,15 @@ expectedAt reference codes candidate k =
     strandBase reference (eqb (candidate .strand) 1)
     (stretchIndex (eqb (candidate .strand) 1) (candidate .position) (alignedCount codes candidate) k)
 
+-- The gaps of a read at a candidate's place.
+unfoldable pub candidateGaps : (reference codes : List ℕ) (candidate : Candidate) → List Gap
+candidateGaps reference codes candidate =
+    gapsOf (expectedAt reference codes candidate) (part codes (candidate .left) (alignedCount codes candidate))
+
 -- The entries of a read at a candidate's place.
 unfoldable pub candidateEntries : (reference codes : List ℕ) (candidate : Candidate) → List Entry
 candidateEntries reference codes candidate =
-    entriesOfGaps (expectedAt reference codes candidate) 0
-    (gapsOf (expectedAt reference codes candidate) (part codes (candidate .left) (alignedCount codes candidate)))
+    entriesOfGaps (expectedAt reference codes candidate) 0 (candidateGaps reference codes candidate)
 
 -- The codes of the ends, left first, as they are packed.
 unfoldable pub clippedCodes : (codes : List ℕ) (candidate : Candidate) → List ℕ

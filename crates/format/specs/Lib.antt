@@ -10,3 +10,4 @@ pub mod FileAnswer
 pub mod FixedRule
 pub mod EncodeAnswer
 pub mod Demands
+pub mod Examples
