@@ -1,0 +1,79 @@
+//! Blocks written by hand, field by field, for the tests.
+#![allow(dead_code)]
+
+use second::*;
+
+/// ACGTACGTTGCA, the reference of 01's sums.
+pub const BASES: u64 = 12;
+pub const REFERENCE: [u8; 3] = [0x1B, 0x1B, 0xE4];
+
+/// A block by hand: a 121-byte header and the three sections that are read.
+#[derive(Clone)]
+pub struct Hand {
+    pub flags: u32,
+    pub l_read: i32,
+    pub n_reads: i32,
+    pub raw_dna: u32,
+    pub dna: Vec<u8>,
+    pub sizes: Vec<u8>,
+    pub n: Vec<u8>,
+}
+
+impl Hand {
+    /// `reads` reads of `length` letters each, flag 0x1.
+    pub fn same(length: i32, reads: i32, dna: &[u8], n: &[u8]) -> Hand {
+        Hand {
+            flags: 1,
+            l_read: length,
+            n_reads: reads,
+            raw_dna: (length * reads) as u32,
+            dna: dna.to_vec(),
+            sizes: Vec::new(),
+            n: n.to_vec(),
+        }
+    }
+
+    pub fn sized(reads: i32, raw_dna: u32, sizes: &[u8]) -> Hand {
+        Hand {
+            flags: 0,
+            l_read: 0,
+            n_reads: reads,
+            raw_dna,
+            dna: Vec::new(),
+            sizes: sizes.to_vec(),
+            n: vec![0; (reads as usize + 7) / 8],
+        }
+    }
+
+    pub fn bytes(&self) -> Vec<u8> {
+        let mut block = vec![0; 121];
+        let mut put = |at: usize, bytes: &[u8]| block[at..at + bytes.len()].copy_from_slice(bytes);
+        put(0, &[0x49, 0x7C]);
+        put(2, &121u32.to_le_bytes());
+        put(6, &(self.dna.len() as u32).to_le_bytes());
+        put(22, &(self.sizes.len() as u32).to_le_bytes());
+        put(26, &(self.n.len() as u32).to_le_bytes());
+        put(42, &self.flags.to_le_bytes());
+        put(46, &self.l_read.to_le_bytes());
+        put(50, &self.n_reads.to_le_bytes());
+        put(54, &20505u16.to_le_bytes());
+        put(56, &7u64.to_le_bytes());
+        put(73, &self.raw_dna.to_le_bytes());
+        [block, self.dna.clone(), self.sizes.clone(), self.n.clone()].concat()
+    }
+}
+
+/// A block's letters as text, with its outcome, under 01's reference.
+pub fn read(block: &[u8]) -> (Outcome, String) {
+    let mut letters = vec![b'.'; 64];
+    let mut ends = vec![0; 64];
+    let outcome = decode(BASES, &REFERENCE, block, &mut letters, &mut ends);
+    let text = letters[..outcome.letters as usize].to_vec();
+    (outcome, String::from_utf8(text).unwrap())
+}
+
+/// Number and read index of a block under 01's reference.
+pub fn told(block: &[u8]) -> (u32, u64) {
+    let outcome = validate_block(BASES, &REFERENCE, block);
+    (outcome.number, outcome.read)
+}

@@ -1,0 +1,156 @@
+//! Property: the corpus in the tree is the one that is made, walks front to
+//! back, keeps its limits, and meets every number and every record kind.
+//! Catches: a corpus gone stale, or one that no longer tests a refusal.
+
+use second::blocks::read_block;
+use second::corpus::*;
+use second::corpus_cases::corpus;
+use second::records::Kind;
+use second::reference::Reference;
+use std::collections::BTreeSet;
+use std::path::Path;
+
+#[test]
+fn the_tree_holds_what_is_made() {
+    let directory = Path::new(env!("CARGO_MANIFEST_DIR")).join("corpus");
+    let mut names: Vec<String> = Vec::new();
+    let mut whole = 0;
+    for file in corpus() {
+        let (bytes, text) = (file.bytes(), file.text());
+        let same = std::fs::read(directory.join(format!("{}.bin", file.name))).unwrap() == bytes;
+        assert!(same, "{}.bin differs: make the corpus again", file.name);
+        let read = std::fs::read_to_string(directory.join(format!("{}.txt", file.name))).unwrap();
+        assert!(read == text, "{}.txt differs: make the corpus again", file.name);
+        assert!(bytes.len() < 256 * 1024 && text.len() < 256 * 1024, "{}", file.name);
+        whole += bytes.len() + text.len();
+        names.extend([format!("{}.bin", file.name), format!("{}.txt", file.name)]);
+    }
+    assert!(whole < 1024 * 1024, "{whole}");
+    let mut found: Vec<String> = std::fs::read_dir(&directory)
+        .unwrap()
+        .map(|entry| entry.unwrap().file_name().into_string().unwrap())
+        .collect();
+    names.sort();
+    found.sort();
+    assert_eq!(found, names);
+}
+
+#[test]
+fn walking_gives_the_cases_and_the_text_back() {
+    for file in corpus() {
+        let cases = parse(&file.bytes()).unwrap();
+        assert_eq!(cases.len(), file.cases.len());
+        let again = CaseFile { name: file.name, cases };
+        assert_eq!(again.bytes(), file.bytes());
+        assert_eq!(again.text(), file.text());
+    }
+}
+
+#[test]
+fn limits_hold() {
+    for file in corpus() {
+        let large = file.name.ends_with("_large");
+        let most_letters = if large { MAX_LETTERS_LARGE } else { MAX_LETTERS };
+        let most_ends = if large { MAX_ENDS_LARGE } else { MAX_ENDS };
+        let most_out = if large { MAX_OUT_LARGE } else { MAX_OUT };
+        for case in &file.cases {
+            let call = &case.call;
+            assert!(call.reference.len() <= MAX_REFERENCE, "{}", case.label);
+            assert!(case.input.len() <= MAX_INPUT, "{} {}", case.label, case.input.len());
+            assert!(case.letters_lent as usize <= most_letters, "{}", case.label);
+            assert!(call.letters.len() <= most_letters, "{}", case.label);
+            assert!(case.ends_lent as usize <= MAX_ENDS, "{}", case.label);
+            assert!(call.ends.len() <= most_ends && call.positions.len() <= MAX_ENDS);
+            assert!(call.strands.len() <= MAX_ENDS && call.lefts.len() <= MAX_ENDS);
+            assert!(call.rights.len() <= MAX_ENDS && call.capacity <= most_out, "{}", case.label);
+            assert!(case.label.len() <= MAX_LABEL);
+            if case.kind == CaseKind::Lengths {
+                let lengths = second::lengths(&case.input);
+                assert!(lengths.map_or(0, |lengths| lengths.len()) <= MAX_ENDS);
+            }
+        }
+    }
+}
+
+/// The numbers in a file's text, and whether some refusal is in a later block.
+fn numbers(name: &str) -> (BTreeSet<u32>, bool) {
+    let file = corpus().into_iter().find(|file| file.name == name).unwrap();
+    let mut numbers = BTreeSet::new();
+    let mut later_block = false;
+    for line in file.text().lines() {
+        let columns: Vec<&str> = line.split(' ').collect();
+        numbers.insert(columns[2].parse().unwrap());
+        later_block |= columns[3] != "0";
+    }
+    (numbers, later_block)
+}
+
+#[test]
+fn every_number_is_met() {
+    let all = |high| (0..=high).collect::<BTreeSet<u32>>();
+    assert_eq!(numbers("decode").0, all(22));
+    assert_eq!(numbers("validate_block").0, all(21));
+    assert_eq!(numbers("validate"), (all(21), true));
+    let lengths = numbers("lengths").0;
+    assert_eq!(lengths, all(10).into_iter().filter(|&number| number != 1).collect());
+    assert_eq!(numbers("encode").0, BTreeSet::from([0, 1, 31, 32, 33, 34]));
+    assert_eq!(numbers("encode_large").0, BTreeSet::from([0, 30, 31]));
+    assert_eq!(numbers("decode_large").0, BTreeSet::from([0, 22]));
+}
+
+/// How often each kind stands in the accepted blocks of a case file.
+fn kinds(blocks: &[(u64, Vec<u8>, Vec<u8>)]) -> [usize; 5] {
+    let mut kinds = [0; 5];
+    for (bases, reference, block) in blocks {
+        let Ok(reference) = Reference::new(*bases, reference) else { continue };
+        let Ok(block) = read_block(&reference, block) else { continue };
+        for record in block.records {
+            kinds[match record.kind {
+                Kind::Perfect(..) => 0,
+                Kind::Global(..) => 1,
+                Kind::Local(..) => 2,
+                Kind::Raw(..) => 3,
+                Kind::Raw4(..) => 4,
+            }] += 1;
+        }
+    }
+    kinds
+}
+
+#[test]
+fn every_record_kind_is_met() {
+    for file in corpus() {
+        let mut blocks = Vec::new();
+        for case in &file.cases {
+            let call = &case.call;
+            let mut block = case.input.clone();
+            if case.kind == CaseKind::Encode {
+                block = vec![0; call.capacity];
+                call.run(&mut block);
+            }
+            blocks.push((call.bases, call.reference.clone(), block));
+        }
+        if ["decode", "validate_block", "validate", "encode"].contains(&file.name) {
+            let kinds = kinds(&blocks);
+            assert!(kinds.iter().all(|&count| count >= 20), "{} {kinds:?}", file.name);
+        }
+    }
+}
+
+/// Every case of the sections file gives eleven lines, every other one.
+#[test]
+fn lines() {
+    for file in corpus() {
+        let each = if file.name == "sections" { 11 } else { 1 };
+        assert_eq!(file.text().lines().count(), each * file.cases.len());
+    }
+}
+
+/// The known values of FNV-1a for "", "a" and "foobar".
+#[test]
+fn hash_values() {
+    assert_eq!(fnv1a(b""), 0xCBF2_9CE4_8422_2325);
+    assert_eq!(fnv1a(b"a"), 0xAF63_DC4C_8601_EC8C);
+    assert_eq!(fnv1a(b"foobar"), 0x8594_4171_F739_67E8);
+    assert_eq!(fnv1a_numbers(&[0x006F_6F66, 0]), fnv1a(b"foo\0\0\0\0\0"));
+}

@@ -1,0 +1,213 @@
+//! Property: the encoder's block is, byte for byte, the one that 01's fixed
+//! rule names; the rule is worked out here a second time, on ASCII letters.
+//! Catches: another choice of kind, fillers at other steps, pos_t or size
+//! bits set otherwise, header fields that should be 0.
+
+use second::generator::{generate_reference, ReferencePlan};
+use second::prng::Prng;
+use second::proposals::{random_call, EncodeCall};
+
+/// One read's record and its four bits.
+struct Written {
+    bits: [bool; 4],
+    bytes: Vec<u8>,
+    position: Option<i64>,
+}
+
+fn reverse_complement(letters: &[u8]) -> Vec<u8> {
+    let text = String::from_utf8(letters.to_vec()).unwrap();
+    text.chars()
+        .rev()
+        .map(|c| match c {
+            'A' => b'T',
+            'C' => b'G',
+            'G' => b'C',
+            _ => b'A',
+        })
+        .collect()
+}
+
+fn bits_text(letters: &[u8], width: usize) -> Vec<u8> {
+    let code = |letter: &u8| "ACGTN".find(*letter as char).unwrap();
+    let mut text: String =
+        letters.iter().map(|letter| format!("{:0width$b}", code(letter))).collect();
+    while text.len() % 8 != 0 {
+        text.push('0');
+    }
+    text.as_bytes()
+        .chunks(8)
+        .map(|eight| u8::from_str_radix(std::str::from_utf8(eight).unwrap(), 2).unwrap())
+        .collect()
+}
+
+fn words(value: usize) -> Vec<u8> {
+    let mut words = [0x00, 0x80].repeat(value / 32768);
+    words.extend(((value % 32768) as u16).to_le_bytes());
+    words
+}
+
+fn n_list(places: &[usize]) -> Vec<u8> {
+    let mut bytes = Vec::new();
+    for (index, &place) in places.iter().enumerate() {
+        if index == 0 {
+            bytes.push(places.len() as u8);
+        }
+        bytes.extend(words(place - if index == 0 { 0 } else { places[index - 1] }));
+    }
+    bytes
+}
+
+/// The entries of the rule, or None where more than 31 are needed.
+fn entries(read: &[u8], given: &[u8]) -> Option<Vec<u8>> {
+    let differing = (0..read.len()).filter(|&at| read[at] != b'N' && read[at] != given[at]);
+    let mut steps: Vec<(usize, usize, u8)> = Vec::new();
+    let mut from = 0;
+    for at in differing {
+        // Fillers at from+63, from+126, ... while more than 63 remains.
+        let fillers = (at - from).saturating_sub(1) / 63;
+        for filler in 1..=fillers {
+            steps.push((from + 63 * (filler - 1), from + 63 * filler, given[from + 63 * filler]));
+        }
+        steps.push((from + 63 * fillers, at, read[at]));
+        from = at;
+    }
+    let byte = |&(from, at, letter): &(usize, usize, u8)| {
+        ((at - from) * 4 + "ACGT".find(letter as char).unwrap()) as u8
+    };
+    (steps.len() <= 31).then(|| steps.iter().map(byte).collect())
+}
+
+fn record(reference: &[u8], call: &EncodeCall, index: usize, previous: i64) -> Written {
+    let start = if index == 0 { 0 } else { call.ends[index - 1] as usize };
+    let read = &call.letters[start..call.ends[index] as usize];
+    let n_places: Vec<usize> = (0..read.len()).filter(|&at| read[at] == b'N').collect();
+    let with_n = !n_places.is_empty();
+    if n_places.len() > 31 {
+        let bytes = [vec![1], bits_text(read, 4)].concat();
+        return Written { bits: [false, false, true, false], bytes, position: None };
+    }
+    let hidden: Vec<u8> = read.iter().map(|&c| if c == b'N' { b'A' } else { c }).collect();
+    let raw = || Written {
+        bits: [false, false, with_n, false],
+        bytes: [vec![2], bits_text(&hidden, 2), n_list(&n_places)].concat(),
+        position: None,
+    };
+    let (left, right) = (call.lefts[index] as usize, call.rights[index] as usize);
+    let strand = call.strands[index];
+    if (strand != 1 && strand != 2) || left + right >= read.len() {
+        return raw();
+    }
+    let position = call.positions[index] as usize;
+    let Some(stretch) = reference.get(position..position + read.len() - left - right) else {
+        return raw();
+    };
+    let given = if strand == 1 { stretch.to_vec() } else { reverse_complement(stretch) };
+    let Some(entries) = entries(&read[left..read.len() - right], &given) else { return raw() };
+
+    let perfect = left + right == 0 && entries.is_empty();
+    let mut bytes = Vec::new();
+    if !perfect {
+        bytes.push(entries.len() as u8 * 8 + if left + right == 0 { 4 } else { 0 });
+    }
+    let step = position as i64 - previous;
+    let pos_t = (0..=65_535).contains(&step);
+    let field = if pos_t { step } else { position as i64 };
+    bytes.extend(&field.to_le_bytes()[..if pos_t { 2 } else { 4 }]);
+    bytes.extend(entries);
+    if left + right > 0 {
+        bytes.extend([left as u8, right as u8]);
+        let ends = [&hidden[..left], &hidden[read.len() - right..]].concat();
+        bytes.extend(bits_text(&ends, 2));
+    }
+    bytes.extend(n_list(&n_places));
+    Written { bits: [perfect, strand == 1, with_n, pos_t], bytes, position: Some(position as i64) }
+}
+
+fn sizes(lengths: &[usize]) -> Vec<u8> {
+    let mut bytes = Vec::new();
+    for first in (0..lengths.len()).step_by(8) {
+        let group = first..lengths.len().min(first + 8);
+        let same = |read: usize| read > 0 && lengths[read] == lengths[read - 1];
+        let one = |read: usize| !same(read) && lengths[read] < 256;
+        let byte = |bit: &dyn Fn(usize) -> bool| {
+            group
+                .clone()
+                .map(|read| if bit(read) { 0x80u8 >> (read - first) } else { 0 })
+                .sum::<u8>()
+        };
+        bytes.extend([byte(&same), byte(&one)]);
+        for read in group.clone() {
+            if one(read) {
+                bytes.push(lengths[read] as u8);
+            } else if !same(read) {
+                bytes.extend(words(lengths[read]));
+            }
+        }
+    }
+    bytes
+}
+
+fn expected_block(reference: &ReferencePlan, call: &EncodeCall) -> Vec<u8> {
+    let reads = call.ends.len();
+    let (mut dna, mut n_section, mut previous) = (Vec::new(), Vec::new(), 0);
+    for first in (0..reads).step_by(8) {
+        let mut group = [0u8; 4];
+        let mut records = Vec::new();
+        for index in first..reads.min(first + 8) {
+            let written = record(&reference.letters, call, index, previous);
+            for (byte, set) in group.iter_mut().zip(written.bits) {
+                *byte += if set { 0x80 >> (index - first) } else { 0 };
+            }
+            previous = written.position.unwrap_or(previous);
+            records.extend(written.bytes);
+        }
+        dna.extend(group);
+        dna.extend(records);
+        n_section.push(group[2]);
+    }
+    let lengths: Vec<usize> = (0..reads)
+        .map(|read| (call.ends[read] - if read == 0 { 0 } else { call.ends[read - 1] }) as usize)
+        .collect();
+    let equal = reads > 0 && lengths.iter().all(|&length| length == lengths[0]);
+    let sizes = if equal { Vec::new() } else { sizes(&lengths) };
+    let u32s = |values: &[usize]| {
+        values.iter().flat_map(|&value| (value as u32).to_le_bytes()).collect::<Vec<u8>>()
+    };
+    let mut block = vec![0x49, 0x7C];
+    block.extend(u32s(&[121, dna.len(), 0, 0, 0, sizes.len(), n_section.len(), 0, 0, 0]));
+    block.extend(u32s(&[if equal { 5 } else { 4 }, if equal { lengths[0] } else { 0 }, reads]));
+    block.extend(20505u16.to_le_bytes());
+    block.extend(call.b_id.to_le_bytes());
+    block.extend([40, 0, 0, 0, 0]);
+    block.extend(u32s(&[0, call.letters.len(), 0, 0, 0]));
+    block.extend(call.c_time.to_le_bytes());
+    block.extend([0; 24]);
+    [block, dna, sizes, n_section].concat()
+}
+
+fn check(rng: &mut Prng, bases: u64, reads: u64, max_length: u64) {
+    let reference = generate_reference(rng, bases);
+    let call = random_call(rng, &reference, reads, max_length);
+    let mut out = vec![0; call.capacity];
+    let outcome = call.run(&mut out);
+    assert_eq!(outcome.number, 0);
+    assert_eq!(out[..outcome.length as usize], expected_block(&reference, &call));
+}
+
+#[test]
+fn small_reads() {
+    let mut rng = Prng::new(31);
+    for _ in 0..3000 {
+        let bases = rng.pick(&[0, 1, 5, 12, 64, 200, 700, 3000]);
+        let max_length = rng.pick(&[1, 5, 40, 300, 2500]);
+        check(&mut rng, bases, 20, max_length);
+    }
+}
+
+#[test]
+fn long_reads() {
+    let mut rng = Prng::new(32);
+    for _ in 0..20 {
+        check(&mut rng, 150_000, 4, 100_000);
+    }
+}
