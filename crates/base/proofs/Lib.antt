@@ -3,3 +3,4 @@ pub mod PlaceLaws
 pub mod Tests
 pub mod NumberLaws
 pub mod PackedLaws
+pub mod StretchPaste

@@ -4,3 +4,4 @@ pub mod Numbers
 pub mod Packed
 pub mod Faults
 pub mod Place
+pub mod Paste

@@ -1,1 +1,2 @@
 pub mod SumsHold
+pub mod ReferenceLaws
