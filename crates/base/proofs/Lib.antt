@@ -4,3 +4,4 @@ pub mod Tests
 pub mod NumberLaws
 pub mod PackedLaws
 pub mod StretchPaste
+pub mod DigitShift

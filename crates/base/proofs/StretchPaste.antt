@@ -4,8 +4,8 @@ use Prim.Native.Nat.{ℕ, zero, suc, _+_, _-_, _≤_, _<_}
 use native.Mathlib.Nat.{not-suc-le-zero}
 use native.Mathlib.Numerals.{add-one}
 use native.Mathlib.Omega.{arith}
-use mathlib.Core.List.{List, [], _∷_, _++_, append-assoc}
-use lib.ListN.{length, getD, set, take, drop, length-append, length-drop, List·getD-append}
+use mathlib.Core.List.{List, [], _∷_, _++_, append-assoc, append-nil}
+use lib.ListN.{length, getD, set, take, drop, length-append, length-drop, drop-of-length-le, List·getD-append}
 use lib.Seq.{getD-append-add, getD-take, getD-drop, length-take-le, ext-getD, set-split, sets-eq}
 use Rattle.base.specs.Paste.{pasted}
 use Rattle.base.proofs.ListLaws.{by-order}
@@ -51,6 +51,12 @@ pasted-after buffer at part i room h =
     ∙ getD-append-add part (drop (at + length part) buffer) j 0
     ∙ getD-drop (at + length part) buffer j 0
     ∙ ap (λ (n : ℕ). getD buffer n 0) f
+
+-- A part as long as the buffer takes its place.
+pub pasted-whole : (buffer part : List ℕ) → length part ≡ length buffer → pasted buffer 0 part ≡ part
+unfolding pasted
+pasted-whole buffer part size =
+    ap (λ (l : List ℕ). part ++ l) (drop-of-length-le buffer {i = 0 + length part} (omega arith)) ∙ append-nil part
 
 -- ---- Stores
 
@@ -116,6 +122,19 @@ filled-more {old} {now} {at} {part} {done} new piece place k more filled room e 
           ∙ same j (omega arith)
           ∙ ap (λ (n : ℕ). getD part n 0) s);
     }
+
+-- One store writes the next element of the part.
+pub filled-next : {old now : List ℕ} {at : ℕ} {part : List ℕ} {k : ℕ} (place x : ℕ) → Filled old now at part k
+    → at + length part ≤ length old → k < length part → place ≡ at + k → x ≡ getD part k 0
+    → Filled old (set now place x) at part (k + 1)
+filled-next {old} {now} {at} {part} {k} place x filled room h there e =
+    let size = filled .sized in
+    filled-more (set now place x) (x ∷ []) place k (k + 1) filled room (set-pasted now place x (omega arith)) there
+    (omega arith) (omega arith) (omega arith)
+    (λ j l.
+    let none : j ≡ 0 = omega arith in
+    let here : k + 0 ≡ k = omega arith in
+    rw (none, here) e)
 
 -- The whole part stands.
 pub filled-all : {old new : List ℕ} {at : ℕ} {part : List ℕ} {done : ℕ} → Filled old new at part done

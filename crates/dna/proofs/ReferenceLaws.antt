@@ -32,9 +32,10 @@ pub reference-length : {bases : ℕ} {reference : List ℕ} → ReferenceFits ba
     → (bases ≤ maxReferenceBases) × (length reference ≡ (bases + 3) / 4)
 unfolding referenceSizeWrong
 reference-length {bases} {reference} size =
-    let both = or-neither (ltb maxReferenceBases bases) (not (eqb (length reference) ((bases + 3) / 4))) (size .fits) in
-    (ltb-false maxReferenceBases bases (both .0),
-      eqb-true (length reference) ((bases + 3) / 4) (not-false _ (both .1)))
+    let both = or-neither (ltb maxReferenceBases bases) (not (eqb (length reference) ((bases + 3) / 4))) (size .fits) in (
+      ltb-false maxReferenceBases bases (both .0),
+      eqb-true (length reference) ((bases + 3) / 4) (not-false _ (both .1)),
+    )
 
 -- ---- One base
 

@@ -1,0 +1,4 @@
+pub mod Codes
+pub mod Words
+pub mod Neighbours
+pub mod Stretches
