@@ -53,35 +53,46 @@ module _ (reference : List ℕ) (forward : Bool) (leftmost bases : ℕ) where
       (omega arith) (omega arith)
       (λ j h. stretch-piece reference forward leftmost bases k count index inside start j (omega arith))
 
-  -- The first four letters, whole bytes, and the last four, where none leaves a gap.
-  pub ends-and-bytes : (old first middle new : List ℕ) (at head count index₁ index₂ index₃ : ℕ) → at + bases ≤ length old
-      → 4 ≤ bases → head ≤ 4 → head + 4 * count ≤ bases → bases ≤ head + 4 * count + 4
-      → first ≡ pasted old at (stretchLetters reference forward index₁ 4)
-      → middle ≡ pasted first (at + head) (stretchLetters reference forward index₂ (4 * count))
-      → new ≡ pasted middle (at + (bases - 4)) (stretchLetters reference forward index₃ 4)
-      → index₁ ≡ pieceLeftmost forward leftmost bases 0 4
-      → index₂ ≡ pieceLeftmost forward leftmost bases head (4 * count)
-      → index₃ ≡ pieceLeftmost forward leftmost bases (bases - 4) 4
-      → new ≡ pasted old at (stretchLetters reference forward leftmost bases)
-  ends-and-bytes old first middle new at head count index₁ index₂ index₃ room some few most least e₁ e₂ e₃ s₁ s₂ s₃ =
-      let w₁ : Written old first at 4 =
-      piece-written first at 0 4 index₁ 4 (written-none old at) room e₁ (omega arith) s₁ (omega arith) (omega arith) (omega arith) in
-      let w₂ : Written old middle at (head + 4 * count) =
-      piece-written middle (at + head) head (4 * count) index₂ (head + 4 * count) w₁ room e₂ refl s₂ few most (omega arith) in
-      let w₃ : Written old new at bases =
-      piece-written new (at + (bases - 4)) (bases - 4) 4 index₃ bases w₂ room e₃ refl s₃ (omega arith) (omega arith) (omega arith) in
-      written-all w₃ room (omega arith)
+  -- The next four letters, from a whole byte, by the table.
+  pub byte-written : {old now : List ℕ} {at : ℕ} (table new : List ℕ) (place k i byte more : ℕ) → table ≡ wordTable forward
+      → Written old now at k → at + bases ≤ length old → k + 4 ≤ bases
+      → new ≡ pasted now place (leBytes 4 (getD table byte 0)) → place ≡ at + k → byte ≡ getD reference i 0 → byte < 256
+      → 4 * i ≡ pieceLeftmost forward leftmost bases k 4 → more ≡ k + 4 → Written old new at more
+  byte-written {old} {now} {at} table new place k i byte more lent written room inside e there here small start next =
+      piece-written new place k 4 (4 * i) more written room
+      (e
+      ∙ ap (pasted now place)
+      (table-letters table reference forward (4 * i) byte lent (basesByte-whole reference (4 * i) i byte refl here small)))
+      there start (omega arith) inside (omega arith)
 
--- The next of `count` whole bytes, by the table.
-pub byte-written : (table reference : List ℕ) (forward : Bool) (first count : ℕ) {old now : List ℕ} {at : ℕ} (new : List ℕ)
-    (place k i byte : ℕ) → table ≡ wordTable forward
-    → Written reference forward (4 * first) (4 * count) old now at (4 * k) → at + 4 * count ≤ length old → k < count
-    → new ≡ pasted now place (leBytes 4 (getD table byte 0)) → place ≡ at + 4 * k → byte ≡ getD reference i 0 → byte < 256
-    → 4 * i ≡ pieceLeftmost forward (4 * first) (4 * count) (4 * k) 4
-    → Written reference forward (4 * first) (4 * count) old new at (4 * (k + 1))
-byte-written table reference forward first count {old} {now} {at} new place k i byte lent written room h e there here small start =
-    piece-written reference forward (4 * first) (4 * count) new place (4 * k) 4 (4 * i) (4 * (k + 1)) written room
-    (e
-    ∙ ap (pasted now place)
-    (table-letters table reference forward (4 * i) byte lent (basesByte-whole reference (4 * i) i byte refl here small)))
-    there start (omega arith) (omega arith) (omega arith)
+  -- The next eight letters, from two bytes.
+  pub pair-written : {old now : List ℕ} {at : ℕ} (table half new : List ℕ) (place k i j one other : ℕ)
+      → table ≡ wordTable forward → Written old now at (8 * k) → at + bases ≤ length old → 8 * k + 8 ≤ bases
+      → half ≡ pasted now place (leBytes 4 (getD table one 0))
+      → new ≡ pasted half (place + 4) (leBytes 4 (getD table other 0)) → place ≡ at + 8 * k
+      → one ≡ getD reference i 0 → one < 256 → other ≡ getD reference j 0 → other < 256
+      → 4 * i ≡ pieceLeftmost forward leftmost bases (8 * k) 4 → 4 * j ≡ pieceLeftmost forward leftmost bases (8 * k + 4) 4
+      → Written old new at (8 * (k + 1))
+  pair-written table half new place k i j one other lent written room inside e f there here small here′ small′ start start′ =
+      byte-written table new (place + 4) (8 * k + 4) j other (8 * (k + 1)) lent
+      (byte-written table half place (8 * k) i one (8 * k + 4) lent written room (omega arith) e there here small start refl)
+      room (omega arith) f (omega arith) here′ small′ start′ (omega arith)
+
+  -- The first four letters, whole bytes, and twice the last four, where none leaves a gap.
+  pub ends-and-bytes : (old first middle almost new : List ℕ) (at head count index₁ index₂ index₃ index₄ : ℕ)
+      → at + bases ≤ length old → 8 ≤ bases → head ≤ 4 → head + count ≤ bases → bases ≤ head + count + 8
+      → first ≡ pasted old at (stretchLetters reference forward index₁ 4)
+      → middle ≡ pasted first (at + head) (stretchLetters reference forward index₂ count)
+      → almost ≡ pasted middle (at + (bases - 8)) (stretchLetters reference forward index₃ 4)
+      → new ≡ pasted almost (at + (bases - 4)) (stretchLetters reference forward index₄ 4)
+      → index₁ ≡ pieceLeftmost forward leftmost bases 0 4 → index₂ ≡ pieceLeftmost forward leftmost bases head count
+      → index₃ ≡ pieceLeftmost forward leftmost bases (bases - 8) 4
+      → index₄ ≡ pieceLeftmost forward leftmost bases (bases - 4) 4
+      → new ≡ pasted old at (stretchLetters reference forward leftmost bases)
+  ends-and-bytes old first middle almost new at head count index₁ index₂ index₃ index₄ room some few most least
+      e₁ e₂ e₃ e₄ s₁ s₂ s₃ s₄ =
+      let w₁ = piece-written first at 0 4 index₁ 4 (written-none old at) room e₁ (omega arith) s₁ (omega arith) (omega arith) (omega arith) in
+      let w₂ = piece-written middle (at + head) head count index₂ (head + count) w₁ room e₂ refl s₂ few most (omega arith) in
+      let w₃ = piece-written almost (at + (bases - 8)) (bases - 8) 4 index₃ (bases - 4) w₂ room e₃ refl s₃ (omega arith) (omega arith) (omega arith) in
+      let w₄ = piece-written new (at + (bases - 4)) (bases - 4) 4 index₄ bases w₃ room e₄ refl s₄ (omega arith) (omega arith) (omega arith) in
+      written-all w₄ room (omega arith)

@@ -2,7 +2,7 @@
 // dna/specs/Reference.antt; the tables of words are those of specs/Tables.antt, made once and lent to each call.
 ghost use mathlib.Core.Path.{_≡_};
 ghost use mathlib.Core.Bool.{Bool, true, false};
-ghost use Prim.Native.Nat.{_+_, _*_, _/_, _<_, _≤_};
+ghost use Prim.Native.Nat.{_+_, _-_, _*_, _/_, _<_, _≤_};
 ghost use lib.ListN.{length};
 ghost use Rattle.base.specs.Numbers.{le, leBytes};
 ghost use Rattle.base.specs.Paste.{pasted};
@@ -178,50 +178,52 @@ fn put_four(reference: &[u8], index: usize, table: &[u32; 256], out: &mut [u8], 
     put_word(out, at, table[bases_byte(reference, index)]);
 }
 
-// Writes the letters of whole bytes of the reference, from byte `first` on.
-fn put_bytes_forward(
+// Writes the letters of pairs of whole bytes of the reference, from byte `first` on.
+fn put_pairs_forward(
     reference: &[u8],
     first: usize,
-    count: usize,
+    pairs: usize,
     table: &[u32; 256],
     out: &mut [u8],
     at: usize,
 )
-    requires { ⌜ (first + count ≤ length (now reference)) × (at + 4 * count ≤ length (now out)) × (now table ≡ wordTable true) ⌝ }
-    ensures { λ _. ⌜ now (out .exit) ≡ pasted (now (out .entry)) at (stretchLetters (now (reference .entry)) true (4 * first) (4 * count)) ⌝ }
+    requires { ⌜ (first + 2 * pairs ≤ length (now reference)) × (at + 8 * pairs ≤ length (now out)) × (now table ≡ wordTable true) ⌝ }
+    ensures { λ _. ⌜ now (out .exit) ≡ pasted (now (out .entry)) at (stretchLetters (now (reference .entry)) true (4 * first) (8 * pairs)) ⌝ }
 {
     let mut k: usize = 0;
-    while k < count {
-        put_word(out, at + 4 * k, table[wide(reference[first + k])]);
-        k += 1;
-    }
-}
-
-// The same bytes on the reverse strand: the last comes first.
-fn put_bytes_reverse(
-    reference: &[u8],
-    first: usize,
-    count: usize,
-    table: &[u32; 256],
-    out: &mut [u8],
-    at: usize,
-)
-    requires { ⌜ (first + count ≤ length (now reference)) × (at + 4 * count ≤ length (now out)) × (now table ≡ wordTable false) ⌝ }
-    ensures { λ _. ⌜ now (out .exit) ≡ pasted (now (out .entry)) at (stretchLetters (now (reference .entry)) false (4 * first) (4 * count)) ⌝ }
-{
-    let mut k: usize = 0;
-    while k < count {
+    while k < pairs {
+        put_word(out, at + 8 * k, table[wide(reference[first + 2 * k])]);
         put_word(
             out,
-            at + 4 * k,
-            table[wide(reference[first + (count - 1 - k)])],
+            at + 8 * k + 4,
+            table[wide(reference[first + 2 * k + 1])],
         );
         k += 1;
     }
 }
 
-// Writes the letters of a stretch on the forward strand: the first four, the whole bytes after them, and the
-// last four over what stands. `table` is the forward strand's.
+// The same for the reverse strand: the bytes before byte `end`, the last first.
+fn put_pairs_reverse(
+    reference: &[u8],
+    end: usize,
+    pairs: usize,
+    table: &[u32; 256],
+    out: &mut [u8],
+    at: usize,
+)
+    requires { ⌜ (2 * pairs ≤ end) × (end ≤ length (now reference)) × (at + 8 * pairs ≤ length (now out)) × (now table ≡ wordTable false) ⌝ }
+    ensures { λ _. ⌜ now (out .exit) ≡ pasted (now (out .entry)) at (stretchLetters (now (reference .entry)) false (4 * end - 8 * pairs) (8 * pairs)) ⌝ }
+{
+    let mut k: usize = 0;
+    while k < pairs {
+        put_word(out, at + 8 * k, table[wide(reference[end - 1 - 2 * k])]);
+        put_word(out, at + 8 * k + 4, table[wide(reference[end - 2 - 2 * k])]);
+        k += 1;
+    }
+}
+
+// Writes the letters of a stretch on the forward strand: the first four, whole bytes after them, and the last
+// eight over what stands. `table` is the forward strand's.
 pub fn put_stretch_forward(
     reference: &[u8],
     leftmost: usize,
@@ -233,14 +235,21 @@ pub fn put_stretch_forward(
     requires { ⌜ (StretchFits (now reference) leftmost bases) × (at + bases ≤ length (now out)) × (now table ≡ wordTable true) ⌝ }
     ensures { λ _. ⌜ now (out .exit) ≡ pasted (now (out .entry)) at (stretchLetters (now (reference .entry)) true leftmost bases) ⌝ }
 {
-    if bases < 4 {
+    if bases < 8 {
         put_letters(reference, true, leftmost, bases, out, at);
         return;
     }
     put_four(reference, leftmost, table, out, at);
     let head = 4 - leftmost % 4;
-    let count = (bases - head) / 4;
-    put_bytes_forward(reference, leftmost / 4 + 1, count, table, out, at + head);
+    let pairs = (bases - head) / 8;
+    put_pairs_forward(reference, leftmost / 4 + 1, pairs, table, out, at + head);
+    put_four(
+        reference,
+        leftmost + (bases - 8),
+        table,
+        out,
+        at + (bases - 8),
+    );
     put_four(
         reference,
         leftmost + (bases - 4),
@@ -263,15 +272,16 @@ pub fn put_stretch_reverse(
     requires { ⌜ (StretchFits (now reference) leftmost bases) × (at + bases ≤ length (now out)) × (now table ≡ wordTable false) ⌝ }
     ensures { λ _. ⌜ now (out .exit) ≡ pasted (now (out .entry)) at (stretchLetters (now (reference .entry)) false leftmost bases) ⌝ }
 {
-    if bases < 4 {
+    if bases < 8 {
         put_letters(reference, false, leftmost, bases, out, at);
         return;
     }
     let end = leftmost + bases;
     put_four(reference, end - 4, table, out, at);
     let head = end % 4;
-    let count = (bases - head) / 4;
-    put_bytes_reverse(reference, end / 4 - count, count, table, out, at + head);
+    let pairs = (bases - head) / 8;
+    put_pairs_reverse(reference, end / 4, pairs, table, out, at + head);
+    put_four(reference, leftmost + 4, table, out, at + (bases - 8));
     put_four(reference, leftmost, table, out, at + (bases - 4));
 }
 
