@@ -214,10 +214,12 @@ fn put_pairs_reverse(
     requires { ⌜ (2 * pairs ≤ end) × (end ≤ length (now reference)) × (at + 8 * pairs ≤ length (now out)) × (now table ≡ wordTable false) ⌝ }
     ensures { λ _. ⌜ now (out .exit) ≡ pasted (now (out .entry)) at (stretchLetters (now (reference .entry)) false (4 * end - 8 * pairs) (8 * pairs)) ⌝ }
 {
+    let mut byte = end;
     let mut k: usize = 0;
     while k < pairs {
-        put_word(out, at + 8 * k, table[wide(reference[end - 1 - 2 * k])]);
-        put_word(out, at + 8 * k + 4, table[wide(reference[end - 2 - 2 * k])]);
+        put_word(out, at + 8 * k, table[wide(reference[byte - 1])]);
+        put_word(out, at + 8 * k + 4, table[wide(reference[byte - 2])]);
+        byte -= 2;
         k += 1;
     }
 }
