@@ -1,9 +1,14 @@
--- The letter of a code, out of one constant. Assumes nothing.
+-- Codes and their letters. Assumes nothing.
 use mathlib.Core.Path.{_≡_, refl}
 use Prim.Native.Nat.{ℕ, zero, suc, _*_, _/_, _%_, _^_, _<_}
 use native.Mathlib.Omega.{arith}
 use Rattle.dna.specs.Reference.{letterOfCode}
 
+-- A base is a code that has a letter.
+pub code-small : (code base : ℕ) → code ≡ base → base < 4 → code < 5
+code-small code base e small = omega arith
+
+-- The letter of a code, out of one constant.
 pub letter-shifted : (code : ℕ) → code < 5 → 336421405505 / 2 ^ (8 * code) % 256 ≡ letterOfCode code
 unfolding letterOfCode
 letter-shifted zero h = refl

@@ -78,21 +78,30 @@ module _ (reference : List ℕ) (forward : Bool) (leftmost bases : ℕ) where
       (byte-written table half place (8 * k) i one (8 * k + 4) lent written room (omega arith) e there here small start refl)
       room (omega arith) f (omega arith) here′ small′ start′ (omega arith)
 
-  -- The first four letters, whole bytes, and twice the last four, where none leaves a gap.
-  pub ends-and-bytes : (old first middle almost new : List ℕ) (at head count index₁ index₂ index₃ index₄ : ℕ)
-      → at + bases ≤ length old → 8 ≤ bases → head ≤ 4 → head + count ≤ bases → bases ≤ head + count + 8
+  -- The first four letters, whole bytes after them, and twice four at the end, where none leaves a gap.
+  pub ends-and-bytes : (old first middle almost new : List ℕ)
+      (at head count place₂ place₃ place₄ index₁ index₂ index₃ index₄ : ℕ) → at + bases ≤ length old → 8 ≤ bases
       → first ≡ pasted old at (stretchLetters reference forward index₁ 4)
-      → middle ≡ pasted first (at + head) (stretchLetters reference forward index₂ count)
-      → almost ≡ pasted middle (at + (bases - 8)) (stretchLetters reference forward index₃ 4)
-      → new ≡ pasted almost (at + (bases - 4)) (stretchLetters reference forward index₄ 4)
-      → index₁ ≡ pieceLeftmost forward leftmost bases 0 4 → index₂ ≡ pieceLeftmost forward leftmost bases head count
+      → middle ≡ pasted first place₂ (stretchLetters reference forward index₂ count)
+      → almost ≡ pasted middle place₃ (stretchLetters reference forward index₃ 4)
+      → new ≡ pasted almost place₄ (stretchLetters reference forward index₄ 4)
+      → head ≤ 4 → head + count ≤ bases → bases ≤ head + count + 8
+      → place₂ ≡ at + head → place₃ ≡ at + (bases - 8) → place₄ ≡ at + (bases - 4)
+      → index₁ ≡ pieceLeftmost forward leftmost bases 0 4
+      → index₂ ≡ pieceLeftmost forward leftmost bases head count
       → index₃ ≡ pieceLeftmost forward leftmost bases (bases - 8) 4
       → index₄ ≡ pieceLeftmost forward leftmost bases (bases - 4) 4
       → new ≡ pasted old at (stretchLetters reference forward leftmost bases)
-  ends-and-bytes old first middle almost new at head count index₁ index₂ index₃ index₄ room some few most least
-      e₁ e₂ e₃ e₄ s₁ s₂ s₃ s₄ =
-      let w₁ = piece-written first at 0 4 index₁ 4 (written-none old at) room e₁ (omega arith) s₁ (omega arith) (omega arith) (omega arith) in
-      let w₂ = piece-written middle (at + head) head count index₂ (head + count) w₁ room e₂ refl s₂ few most (omega arith) in
-      let w₃ = piece-written almost (at + (bases - 8)) (bases - 8) 4 index₃ (bases - 4) w₂ room e₃ refl s₃ (omega arith) (omega arith) (omega arith) in
-      let w₄ = piece-written new (at + (bases - 4)) (bases - 4) 4 index₄ bases w₃ room e₄ refl s₄ (omega arith) (omega arith) (omega arith) in
+  ends-and-bytes old first middle almost new at head count place₂ place₃ place₄ index₁ index₂ index₃ index₄ room some
+      e₁ e₂ e₃ e₄ few most least p₂ p₃ p₄ s₁ s₂ s₃ s₄ =
+      let w₁ =
+      piece-written first at 0 4 index₁ 4 (written-none old at) room e₁ (omega arith) s₁ (omega arith) (omega arith)
+      (omega arith) in
+      let w₂ =
+      piece-written middle place₂ head count index₂ (head + count) w₁ room e₂ p₂ s₂ few most (omega arith) in
+      let w₃ =
+      piece-written almost place₃ (bases - 8) 4 index₃ (bases - 4) w₂ room e₃ p₃ s₃ (omega arith) (omega arith)
+      (omega arith) in
+      let w₄ =
+      piece-written new place₄ (bases - 4) 4 index₄ bases w₃ room e₄ p₄ s₄ (omega arith) (omega arith) (omega arith) in
       written-all w₄ room (omega arith)

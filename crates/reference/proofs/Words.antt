@@ -15,7 +15,7 @@ use Rattle.base.proofs.ListLaws.{length-build, getD-build}
 use Rattle.base.proofs.NumberLaws.{length-leBytes, leBytes-le}
 use Rattle.base.proofs.PlaceLaws.{at-self, at-same}
 use Rattle.base.proofs.PackedLaws.{byteOf-below, byteOf-cong, digit-byteOf, byteOf-digit}
-use Rattle.base.proofs.StretchPaste.{sets-pasted}
+use Rattle.base.proofs.StretchPaste.{pasted-whole, sets-pasted}
 use Rattle.dna.specs.Reference.{referenceBase, stretchLetters}
 use Rattle.dna.proofs.ReferenceLaws.{
   referenceBase-below,
@@ -82,6 +82,17 @@ length-wordTable forward = length-build 256 (byteWord forward)
 pub getD-wordTable : (forward : Bool) (byte : ℕ) → byte < 256 → getD (wordTable forward) byte 0 ≡ byteWord forward byte
 unfolding wordTable
 getD-wordTable forward byte small = getD-build 256 (byteWord forward) byte 0 small
+
+-- The word of a byte, from the letters of a reference of that byte alone.
+pub byteWord-is : (forward : Bool) (byte word : ℕ) (buffer letters : List ℕ) → length buffer ≡ 4
+    → letters ≡ pasted buffer 0 (stretchLetters (byte ∷ []) forward 0 4) → word ≡ le 4 letters 0
+    → word ≡ byteWord forward byte
+unfolding byteWord
+byteWord-is forward byte word buffer letters size e is =
+    let part : List ℕ = stretchLetters (byte ∷ []) forward 0 4 in
+    is
+    ∙ ap (λ (l : List ℕ). le 4 l 0)
+    (e ∙ pasted-whole buffer part (length-stretchLetters (byte ∷ []) forward 0 4 ∙ sym size))
 
 -- ---- The letters of a word
 

@@ -245,20 +245,9 @@ pub fn put_stretch_forward(
     let head = 4 - leftmost % 4;
     let pairs = (bases - head) / 8;
     put_pairs_forward(reference, leftmost / 4 + 1, pairs, table, out, at + head);
-    put_four(
-        reference,
-        leftmost + (bases - 8),
-        table,
-        out,
-        at + (bases - 8),
-    );
-    put_four(
-        reference,
-        leftmost + (bases - 4),
-        table,
-        out,
-        at + (bases - 4),
-    );
+    let tail = bases - 8;
+    put_four(reference, leftmost + tail, table, out, at + tail);
+    put_four(reference, leftmost + tail + 4, table, out, at + tail + 4);
 }
 
 // Writes the letters of a stretch on the reverse strand, which begin at its other end. `table` is the reverse
@@ -283,8 +272,9 @@ pub fn put_stretch_reverse(
     let head = end % 4;
     let pairs = (bases - head) / 8;
     put_pairs_reverse(reference, end / 4, pairs, table, out, at + head);
-    put_four(reference, leftmost + 4, table, out, at + (bases - 8));
-    put_four(reference, leftmost, table, out, at + (bases - 4));
+    let tail = bases - 8;
+    put_four(reference, leftmost + 4, table, out, at + tail);
+    put_four(reference, leftmost, table, out, at + tail + 4);
 }
 
 // Writes the letters of a stretch as a strand prints them, from index `at` of the buffer on.

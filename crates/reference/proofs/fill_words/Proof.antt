@@ -1,16 +1,13 @@
-use borrow.Author.Needs.{needs}
+-- `reference::fill_words` meets its contract: the invariant: the words of the bytes passed stand. The measure is what is left. Assumes nothing.
 use Prim.Native.Nat.{_≤_, _-_}
 use native.Mathlib.Omega.{arith}
 use mathlib.Core.Path.{_∙_, sym}
-use Rattle.base.proofs.StretchPaste.{Filled, filled-none, filled-next, filled-all, pasted-whole}
-use Rattle.reference.specs.Tables.{wordTable}
-use Rattle.reference.proofs.Words.{length-wordTable, getD-wordTable}
 use borrow.Author.Needs.{needs}
+use Rattle.base.proofs.StretchPaste.{Filled, filled-none, filled-next, filled-all, pasted-whole}
+use Rattle.reference.proofs.Words.{length-wordTable, getD-wordTable}
+use Rattle.reference.specs.Tables.{wordTable}
 use Rattle.reference.proofs.fill_words.Statement.{statement}
 use Rattle.reference.proofs.fill_words.Tie as tie
-use Rattle.reference.proofs.fill_words.Reads as reads
-use Rattle.reference.proofs.fill_words.Lts as lts
-use Rattle.reference.proofs.byte_word.Reads as byte-word-reads
 
 abbrev Inv-loop : tie.InvT-loop
 Inv-loop forward table₀ byte₀ table byte = (byte ≤ 256) × (Filled table₀ table 0 (wordTable forward) byte)
@@ -18,35 +15,27 @@ Inv-loop forward table₀ byte₀ table byte = (byte ≤ 256) × (Filled table�
 abbrev μ-loop : tie.MeasureT-loop
 μ-loop forward table₀ byte₀ table byte = 256 - byte
 
--- src/lib.rt:132:5
 loop-holds : tie.Need-loop-holds Inv-loop μ-loop
 loop-holds c = (omega arith, filled-none (c .before .args .table .now) 0 (wordTable (c .before .args .forward)))
 
--- src/lib.rt:133:42
 cast-byte-word : tie.Need-cast-byte-word Inv-loop μ-loop
 cast-byte-word c = search needs
 
--- src/lib.rt:133:23
 byte-word-requires : tie.Need-byte-word-requires Inv-loop μ-loop
 byte-word-requires c κs = search needs
 
--- src/lib.rt:133:9
 mul-table : tie.Need-mul-table Inv-loop μ-loop
 mul-table c = search needs
 
--- src/lib.rt:133:9
 slice-write-table : tie.Need-slice-write-table Inv-loop μ-loop
 slice-write-table c = omega (arith, c .before .before .loop .inv .1 .sized)
 
--- src/lib.rt:134:9
 add-byte : tie.Need-add-byte Inv-loop μ-loop
 add-byte c = search needs
 
--- src/lib.rt:132:5
 loop-less : tie.Need-loop-less Inv-loop μ-loop
 loop-less c = search needs
 
--- src/lib.rt:132:5
 loop-again : tie.Need-loop-again Inv-loop μ-loop
 loop-again c =
     let size = length-wordTable (c .before .before .before .before .args .forward) in (
@@ -55,11 +44,9 @@ loop-again c =
           (c .byte-word .ensures ∙ sym (getD-wordTable (c .before .before .before .before .args .forward) (c .before .before .loop .byte) (c .before .loop-test .taken))),
     )
 
--- src/lib.rt:127:1
 same-length : tie.Need-same-length Inv-loop μ-loop
 same-length c = c .before .loop .inv .1 .sized
 
--- src/lib.rt:127:1
 returns : tie.Need-returns Inv-loop μ-loop
 returns c =
     let size = length-wordTable (c .before .before .before .args .forward) in

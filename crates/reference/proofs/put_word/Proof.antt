@@ -1,61 +1,47 @@
+-- `reference::put_word` meets its contract: four stores in a row. Assumes nothing.
 use native.Mathlib.Omega.{arith}
 use lib.ListN.{length-set}
-use Rattle.reference.proofs.Words.{word-stored}
 use borrow.Author.Needs.{needs}
+use Rattle.reference.proofs.Words.{word-stored}
 use Rattle.reference.proofs.put_word.Statement.{statement}
 use Rattle.reference.proofs.put_word.Tie as tie
-use Rattle.reference.proofs.put_word.Reads as reads
-use Rattle.reference.proofs.put_word.Lts as lts
 
--- src/lib.rt:158:15
 cast-out : tie.Need-cast-out
 cast-out c = search needs
 
--- src/lib.rt:158:5
 slice-write-out : tie.Need-slice-write-out
 slice-write-out c = search needs
 
--- src/lib.rt:159:19
 cast-out-2 : tie.Need-cast-out-2
 cast-out-2 c = search needs
 
--- src/lib.rt:159:9
 add-out : tie.Need-add-out
 add-out c = search needs
 
--- src/lib.rt:159:5
 slice-write-out-2 : tie.Need-slice-write-out-2
 slice-write-out-2 c = simp length-set (omega arith)
 
--- src/lib.rt:160:19
 cast-out-3 : tie.Need-cast-out-3
 cast-out-3 c = search needs
 
--- src/lib.rt:160:9
 add-out-2 : tie.Need-add-out-2
 add-out-2 c = search needs
 
--- src/lib.rt:160:5
 slice-write-out-3 : tie.Need-slice-write-out-3
 slice-write-out-3 c = simp length-set (omega arith)
 
--- src/lib.rt:161:19
 cast-out-4 : tie.Need-cast-out-4
 cast-out-4 c = search needs
 
--- src/lib.rt:161:9
 add-out-3 : tie.Need-add-out-3
 add-out-3 c = search needs
 
--- src/lib.rt:161:5
 slice-write-out-4 : tie.Need-slice-write-out-4
 slice-write-out-4 c = simp length-set (omega arith)
 
--- src/lib.rt:154:1
 same-length : tie.Need-same-length
 same-length c = search needs
 
--- src/lib.rt:154:1
 returns : tie.Need-returns
 returns c = word-stored (c .args .out .now) (c .args .at) (c .args .word) (c .pre)
 
