@@ -1,14 +1,14 @@
 -- Laws of the reference and of the letters of a stretch, over both strands. Assumes nothing.
-use mathlib.Core.Path.{_≡_, refl, sym, ap, _∙_, subst}
-use Prim.Native.Nat.{ℕ, zero, suc, _+_, _-_, _*_, _/_, _%_, _≤_, _<_}
+use mathlib.Core.Path.{_≡_, sym, ap, _∙_}
+use Prim.Native.Nat.{ℕ, zero, suc, _+_, _-_, _/_, _%_, _≤_, _<_}
 use native.Mathlib.Nat.{zero-lt-suc}
 use native.Mathlib.Omega.{arith}
-use mathlib.Core.Bool.{Bool, true, false, cond, not, _||_}
-use mathlib.Core.List.{List, [], _∷_}
+use mathlib.Core.Bool.{Bool, true, false, cond, not}
+use mathlib.Core.List.{List}
 use lib.ListN.{length, getD}
 use lib.Dec.{ltb, eqb}
 use borrow.Author.Tests.{ltb-false, eqb-true}
-use Rattle.base.specs.Lists.{build, Below, AllBytes}
+use Rattle.base.specs.Lists.{AllBytes}
 use Rattle.base.specs.Packed.{symbolAt}
 use Rattle.base.proofs.ListLaws.{length-build, getD-build, build-cong, below-build}
 use Rattle.base.proofs.Tests.{or-neither, not-false}

@@ -1,16 +1,15 @@
 -- The table's word of the byte of four bases holds their letters. Assumes nothing.
-use mathlib.Core.Path.{_≡_, refl, sym, ap, _∙_, subst}
-use Prim.Native.Nat.{ℕ, zero, suc, _+_, _-_, _*_, _/_, _%_, _^_, _≤_, _<_}
-use native.Mathlib.Nat.{zero-lt-suc, zero-add, pow-zero, pow-suc}
+use mathlib.Core.Path.{_≡_, sym, ap, _∙_, subst}
+use Prim.Native.Nat.{ℕ, _+_, _-_, _*_, _/_, _%_, _≤_, _<_}
+use native.Mathlib.Nat.{zero-lt-suc}
 use native.Mathlib.Omega.{arith}
 use mathlib.Core.Bool.{Bool}
 use mathlib.Core.List.{List, [], _∷_}
 use lib.ListN.{length, getD, set}
-use Rattle.base.specs.Lists.{build, AllBytes}
+use Rattle.base.specs.Lists.{AllBytes}
 use Rattle.base.specs.Numbers.{le, leBytes}
-use Rattle.base.specs.Packed.{digit, byteOf, symbolAt}
+use Rattle.base.specs.Packed.{digit, symbolAt}
 use Rattle.base.specs.Paste.{pasted}
-use Rattle.base.specs.Place.{At}
 use Rattle.base.proofs.ListLaws.{length-build, getD-build}
 use Rattle.base.proofs.NumberLaws.{length-leBytes, leBytes-le}
 use Rattle.base.proofs.PlaceLaws.{at-self, at-same}

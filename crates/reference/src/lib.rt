@@ -7,6 +7,7 @@ ghost use lib.ListN.{length};
 ghost use Rattle.base.specs.Numbers.{le, leBytes};
 ghost use Rattle.base.specs.Paste.{pasted};
 ghost use Rattle.dna.specs.Reference.{
+  maxReferenceBases,
   referenceSizeWrong,
   referenceBase,
   complement,
@@ -68,62 +69,16 @@ pub fn letter_of_code(code: u8) -> u8
     ((0x4e_5447_4341u64 >> (8 * code)) % 256) as u8
 }
 
-// The reference index under letter k of a stretch.
-fn stretch_index(forward: bool, leftmost: usize, bases: usize, k: usize) -> usize
-    requires { ⌜ (k < bases) × (leftmost + bases < 18446744073709551616) ⌝ }
-    ensures { λ r. ⌜ r ≡ stretchIndex forward leftmost bases k ⌝ }
+// The table of a strand, which the caller makes once and lends to each call.
+pub fn word_table(forward: bool) -> [u32; 256]
+    ensures { λ r. ⌜ r ≡ wordTable forward ⌝ }
 {
-    if forward {
-        return leftmost + k;
-    }
-    leftmost + (bases - 1 - k)
+    let mut table = [0u32; 256];
+    fill_words(forward, &mut table);
+    table
 }
 
-// Writes the letters of a stretch one at a time, from index `at` of the buffer on.
-fn put_letters(
-    reference: &[u8],
-    forward: bool,
-    leftmost: usize,
-    bases: usize,
-    out: &mut [u8],
-    at: usize,
-)
-    requires { ⌜ (StretchFits (now reference) leftmost bases) × (at + bases ≤ length (now out)) ⌝ }
-    ensures { λ _. ⌜ now (out .exit) ≡ pasted (now (out .entry)) at (stretchLetters (now (reference .entry)) forward leftmost bases) ⌝ }
-{
-    let mut k: usize = 0;
-    while k < bases {
-        let index = stretch_index(forward, leftmost, bases, k);
-        out[at + k] = letter_of_code(strand_base(reference, forward, index));
-        k += 1;
-    }
-}
-
-fn wide_u32(x: u8) -> u32
-    ensures { λ r. ⌜ (r ≡ x) × (r < 256) ⌝ }
-{
-    x as u32
-}
-
-// The little-endian number of four bytes.
-fn word_of(bytes: [u8; 4]) -> u32
-    ensures { λ r. ⌜ r ≡ le 4 bytes 0 ⌝ }
-{
-    let low = wide_u32(bytes[0]) + 256 * wide_u32(bytes[1]);
-    let high = wide_u32(bytes[2]) + 256 * wide_u32(bytes[3]);
-    low + 65536 * high
-}
-
-// The word of a byte of four bases: their letters, as a strand prints them.
-fn byte_word(forward: bool, byte: u8) -> u32
-    ensures { λ r. ⌜ r ≡ byteWord forward byte ⌝ }
-{
-    let one = [byte];
-    let mut letters = [0u8; 4];
-    put_letters(&one, forward, 0, 4, &mut letters, 0);
-    word_of(letters)
-}
-
+// Fills a table of 256 words with those of a strand.
 pub fn fill_words(forward: bool, table: &mut [u32])
     requires { ⌜ length (now table) ≡ 256 ⌝ }
     ensures { λ _. ⌜ now (table .exit) ≡ wordTable forward ⌝ }
@@ -135,93 +90,25 @@ pub fn fill_words(forward: bool, table: &mut [u32])
     }
 }
 
-// The table of a strand, which the caller makes once and lends to each call.
-pub fn word_table(forward: bool) -> [u32; 256]
-    ensures { λ r. ⌜ r ≡ wordTable forward ⌝ }
-{
-    let mut table = [0u32; 256];
-    fill_words(forward, &mut table);
-    table
-}
-
-fn wide(x: u8) -> usize
-    ensures { λ r. ⌜ (r ≡ x) × (r < 256) ⌝ }
-{
-    x as usize
-}
-
-// Writes the four bytes of a word, the lowest first: the compiler makes one store of them.
-fn put_word(out: &mut [u8], at: usize, word: u32)
-    requires { ⌜ at + 4 ≤ length (now out) ⌝ }
-    ensures { λ _. ⌜ now (out .exit) ≡ pasted (now (out .entry)) at (leBytes 4 word) ⌝ }
-{
-    out[at] = (word % 256) as u8;
-    out[at + 1] = (word / 256 % 256) as u8;
-    out[at + 2] = (word / 65536 % 256) as u8;
-    out[at + 3] = (word / 16777216 % 256) as u8;
-}
-
-// The byte of the four bases from an index on: no branch, and no read past the last of them.
-fn bases_byte(reference: &[u8], index: usize) -> usize
-    requires { ⌜ StretchFits (now reference) index 4 ⌝ }
-    ensures { λ r. ⌜ (r ≡ basesByte (now (reference .entry)) index) × (r < 256) ⌝ }
-{
-    let both = wide(reference[index / 4]) * 256 + wide(reference[(index + 3) / 4]);
-    (both >> (8 - 2 * (index % 4))) % 256
-}
-
-// Writes the letters of the four bases from an index on, on the strand whose table is lent.
-fn put_four(reference: &[u8], index: usize, table: &[u32; 256], out: &mut [u8], at: usize)
-    requires { ⌜ (StretchFits (now reference) index 4) × (at + 4 ≤ length (now out)) ⌝ }
-    ensures { λ _. ⌜ ((forward : Bool) → now (table .entry) ≡ wordTable forward → now (out .exit) ≡ pasted (now (out .entry)) at (stretchLetters (now (reference .entry)) forward index 4)) ⌝ }
-{
-    put_word(out, at, table[bases_byte(reference, index)]);
-}
-
-// Writes the letters of pairs of whole bytes of the reference, from byte `first` on.
-fn put_pairs_forward(
+// Writes the letters of a stretch as a strand prints them, from index `at` of the buffer on.
+pub fn put_stretch(
     reference: &[u8],
-    first: usize,
-    pairs: usize,
-    table: &[u32; 256],
+    forward: bool,
+    leftmost: usize,
+    bases: usize,
+    forward_table: &[u32; 256],
+    reverse_table: &[u32; 256],
     out: &mut [u8],
     at: usize,
 )
-    requires { ⌜ (first + 2 * pairs ≤ length (now reference)) × (at + 8 * pairs ≤ length (now out)) × (now table ≡ wordTable true) ⌝ }
-    ensures { λ _. ⌜ now (out .exit) ≡ pasted (now (out .entry)) at (stretchLetters (now (reference .entry)) true (4 * first) (8 * pairs)) ⌝ }
+    requires { ⌜ (StretchFits (now reference) leftmost bases) × (at + bases ≤ length (now out)) × (now «forward_table» ≡ wordTable true) × (now «reverse_table» ≡ wordTable false) ⌝ }
+    ensures { λ _. ⌜ now (out .exit) ≡ pasted (now (out .entry)) at (stretchLetters (now (reference .entry)) forward leftmost bases) ⌝ }
 {
-    let mut k: usize = 0;
-    while k < pairs {
-        put_word(out, at + 8 * k, table[wide(reference[first + 2 * k])]);
-        put_word(
-            out,
-            at + 8 * k + 4,
-            table[wide(reference[first + 2 * k + 1])],
-        );
-        k += 1;
+    if forward {
+        put_stretch_forward(reference, leftmost, bases, forward_table, out, at);
+        return;
     }
-}
-
-// The same for the reverse strand: the bytes before byte `end`, the last first.
-fn put_pairs_reverse(
-    reference: &[u8],
-    end: usize,
-    pairs: usize,
-    table: &[u32; 256],
-    out: &mut [u8],
-    at: usize,
-)
-    requires { ⌜ (2 * pairs ≤ end) × (end ≤ length (now reference)) × (at + 8 * pairs ≤ length (now out)) × (now table ≡ wordTable false) ⌝ }
-    ensures { λ _. ⌜ now (out .exit) ≡ pasted (now (out .entry)) at (stretchLetters (now (reference .entry)) false (4 * end - 8 * pairs) (8 * pairs)) ⌝ }
-{
-    let mut byte = end;
-    let mut k: usize = 0;
-    while k < pairs {
-        put_word(out, at + 8 * k, table[wide(reference[byte - 1])]);
-        put_word(out, at + 8 * k + 4, table[wide(reference[byte - 2])]);
-        byte -= 2;
-        k += 1;
-    }
+    put_stretch_reverse(reference, leftmost, bases, reverse_table, out, at);
 }
 
 // Writes the letters of a stretch on the forward strand: the first four, whole bytes after them, and the last
@@ -277,23 +164,140 @@ pub fn put_stretch_reverse(
     put_four(reference, leftmost, table, out, at + tail + 4);
 }
 
-// Writes the letters of a stretch as a strand prints them, from index `at` of the buffer on.
-pub fn put_stretch(
+// Writes the letters of pairs of whole bytes of the reference, from byte `first` on.
+fn put_pairs_forward(
+    reference: &[u8],
+    first: usize,
+    pairs: usize,
+    table: &[u32; 256],
+    out: &mut [u8],
+    at: usize,
+)
+    requires { ⌜ (first + 2 * pairs ≤ length (now reference)) × (at + 8 * pairs ≤ length (now out)) × (now table ≡ wordTable true) ⌝ }
+    ensures { λ _. ⌜ now (out .exit) ≡ pasted (now (out .entry)) at (stretchLetters (now (reference .entry)) true (4 * first) (8 * pairs)) ⌝ }
+{
+    let mut k: usize = 0;
+    while k < pairs {
+        put_word(out, at + 8 * k, table[wide(reference[first + 2 * k])]);
+        put_word(
+            out,
+            at + 8 * k + 4,
+            table[wide(reference[first + 2 * k + 1])],
+        );
+        k += 1;
+    }
+}
+
+// The same for the reverse strand: the bytes before byte `end`, the last first.
+fn put_pairs_reverse(
+    reference: &[u8],
+    end: usize,
+    pairs: usize,
+    table: &[u32; 256],
+    out: &mut [u8],
+    at: usize,
+)
+    requires { ⌜ (2 * pairs ≤ end) × (end ≤ length (now reference)) × (at + 8 * pairs ≤ length (now out)) × (now table ≡ wordTable false) ⌝ }
+    ensures { λ _. ⌜ now (out .exit) ≡ pasted (now (out .entry)) at (stretchLetters (now (reference .entry)) false (4 * end - 8 * pairs) (8 * pairs)) ⌝ }
+{
+    let mut byte = end;
+    let mut k: usize = 0;
+    while k < pairs {
+        put_word(out, at + 8 * k, table[wide(reference[byte - 1])]);
+        put_word(out, at + 8 * k + 4, table[wide(reference[byte - 2])]);
+        byte -= 2;
+        k += 1;
+    }
+}
+
+// Writes the letters of the four bases from an index on, on the strand whose table is lent.
+fn put_four(reference: &[u8], index: usize, table: &[u32; 256], out: &mut [u8], at: usize)
+    requires { ⌜ (StretchFits (now reference) index 4) × (at + 4 ≤ length (now out)) ⌝ }
+    ensures { λ _. ⌜ ((forward : Bool) → now (table .entry) ≡ wordTable forward → now (out .exit) ≡ pasted (now (out .entry)) at (stretchLetters (now (reference .entry)) forward index 4)) ⌝ }
+{
+    put_word(out, at, table[bases_byte(reference, index)]);
+}
+
+// The byte of the four bases from an index on: no branch, and no read past the last of them.
+fn bases_byte(reference: &[u8], index: usize) -> usize
+    requires { ⌜ StretchFits (now reference) index 4 ⌝ }
+    ensures { λ r. ⌜ (r ≡ basesByte (now (reference .entry)) index) × (r < 256) ⌝ }
+{
+    let both = wide(reference[index / 4]) * 256 + wide(reference[(index + 3) / 4]);
+    (both >> (8 - 2 * (index % 4))) % 256
+}
+
+// Writes the four bytes of a word, the lowest first: the compiler makes one store of them.
+fn put_word(out: &mut [u8], at: usize, word: u32)
+    requires { ⌜ at + 4 ≤ length (now out) ⌝ }
+    ensures { λ _. ⌜ now (out .exit) ≡ pasted (now (out .entry)) at (leBytes 4 word) ⌝ }
+{
+    out[at] = (word % 256) as u8;
+    out[at + 1] = (word / 256 % 256) as u8;
+    out[at + 2] = (word / 65536 % 256) as u8;
+    out[at + 3] = (word / 16777216 % 256) as u8;
+}
+
+// Writes the letters of a stretch one at a time, from index `at` of the buffer on.
+fn put_letters(
     reference: &[u8],
     forward: bool,
     leftmost: usize,
     bases: usize,
-    forward_table: &[u32; 256],
-    reverse_table: &[u32; 256],
     out: &mut [u8],
     at: usize,
 )
-    requires { ⌜ (StretchFits (now reference) leftmost bases) × (at + bases ≤ length (now out)) × (now «forward_table» ≡ wordTable true) × (now «reverse_table» ≡ wordTable false) ⌝ }
+    requires { ⌜ (StretchFits (now reference) leftmost bases) × (at + bases ≤ length (now out)) ⌝ }
     ensures { λ _. ⌜ now (out .exit) ≡ pasted (now (out .entry)) at (stretchLetters (now (reference .entry)) forward leftmost bases) ⌝ }
 {
-    if forward {
-        put_stretch_forward(reference, leftmost, bases, forward_table, out, at);
-        return;
+    let mut k: usize = 0;
+    while k < bases {
+        let index = stretch_index(forward, leftmost, bases, k);
+        out[at + k] = letter_of_code(strand_base(reference, forward, index));
+        k += 1;
     }
-    put_stretch_reverse(reference, leftmost, bases, reverse_table, out, at);
+}
+
+// The reference index under letter k of a stretch.
+fn stretch_index(forward: bool, leftmost: usize, bases: usize, k: usize) -> usize
+    requires { ⌜ (k < bases) × (leftmost + bases ≤ maxReferenceBases) ⌝ }
+    ensures { λ r. ⌜ r ≡ stretchIndex forward leftmost bases k ⌝ }
+{
+    if forward {
+        return leftmost + k;
+    }
+    leftmost + (bases - 1 - k)
+}
+
+// The word of a byte of four bases: their letters, as a strand prints them.
+fn byte_word(forward: bool, byte: u8) -> u32
+    ensures { λ r. ⌜ r ≡ byteWord forward byte ⌝ }
+{
+    let one = [byte];
+    let mut letters = [0u8; 4];
+    put_letters(&one, forward, 0, 4, &mut letters, 0);
+    word_of(letters)
+}
+
+// The little-endian number of four bytes.
+fn word_of(bytes: [u8; 4]) -> u32
+    ensures { λ r. ⌜ r ≡ le 4 bytes 0 ⌝ }
+{
+    let low = wide_u32(bytes[0]) + 256 * wide_u32(bytes[1]);
+    let high = wide_u32(bytes[2]) + 256 * wide_u32(bytes[3]);
+    low + 65536 * high
+}
+
+// A byte as an index.
+fn wide(x: u8) -> usize
+    ensures { λ r. ⌜ (r ≡ x) × (r < 256) ⌝ }
+{
+    x as usize
+}
+
+// A byte as a part of a word.
+fn wide_u32(x: u8) -> u32
+    ensures { λ r. ⌜ (r ≡ x) × (r < 256) ⌝ }
+{
+    x as u32
 }
