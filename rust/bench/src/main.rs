@@ -7,7 +7,7 @@ use std::hint::black_box;
 use std::time::{Duration, Instant};
 use writers::*;
 
-const PASSES: usize = 31;
+const PASSES: usize = 201;
 
 /// Stretches of one reference, written one after the other.
 struct Work {
