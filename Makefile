@@ -1,12 +1,23 @@
 # make run: lists the shipped sample. make test: the gate; it needs only the Rattle toolchain.
 # make second: the tests of the second implementation; it needs cargo.
-.PHONY: run test second
+# make bench: measures the writers of a stretch (docs/BENCHMARK.md); it needs cargo, and x86-64.
+.PHONY: run test second bench
 run:
 	@echo "make run: the listing program is not part of this version yet; 'make test' checks what is" >&2; exit 2
 
 test:
 	@bash .ci/run
 
+second bench: export CARGO_TARGET_DIR ?= $(CURDIR)/target/cargo
 second:
-	@command -v cargo >/dev/null || { echo "make second: cargo is not installed" >&2; exit 2; }
-	cd rust/second && cargo test
+	@command -v cargo >/dev/null 2>&1 \
+	  || { echo "second: Rust is missing: there is no command 'cargo' on the PATH" >&2; exit 2; }
+	@cargo test --offline --manifest-path rust/second/Cargo.toml
+
+bench:
+	@command -v rt >/dev/null 2>&1 \
+	  || { echo "bench: the Rattle toolchain is missing: there is no command 'rt' on the PATH" >&2; exit 2; }
+	@command -v cargo >/dev/null 2>&1 \
+	  || { echo "bench: Rust is missing: there is no command 'cargo' on the PATH" >&2; exit 2; }
+	@rt staticlib bench_exports
+	@cargo run --release --quiet --offline --manifest-path rust/bench/Cargo.toml

@@ -9,3 +9,4 @@ pub mod BitLaws
 pub mod PasteLaws
 pub mod PaddingLaws
 pub mod PackedPasteLaws
+pub mod FilledLaws

@@ -14,3 +14,4 @@ pub mod WalkFinds
 pub mod WalkFound
 pub mod OneDivision
 pub mod WalkNumbers
+pub mod ReferenceLaws

@@ -1,0 +1,5 @@
+pub mod Codes
+pub mod Fits
+pub mod Words
+pub mod Neighbours
+pub mod Stretches

@@ -1,0 +1,72 @@
+-- `reference::fill_words` meets its contract: the invariant: the words of the bytes passed stand. The measure is what is left. Assumes nothing.
+use Prim.Native.Nat.{_≤_, _-_}
+use native.Mathlib.Omega.{arith}
+use mathlib.Core.Path.{_∙_, sym}
+use borrow.Author.Needs.{needs}
+use Rattle.base.proofs.FilledLaws.{Filled, filled-none, filled-next, filled-all}
+use Rattle.base.proofs.PasteLaws.{pasted-whole}
+use Rattle.reference.proofs.Words.{length-wordTable, getD-wordTable}
+use Rattle.reference.specs.Tables.{wordTable}
+use Rattle.reference.proofs.fill_words.Statement.{statement}
+use Rattle.reference.proofs.fill_words.Tie as tie
+
+abbrev Inv-loop : tie.InvT-loop
+Inv-loop forward table₀ byte₀ table byte = (byte ≤ 256) × (Filled table₀ table 0 (wordTable forward) byte)
+
+abbrev μ-loop : tie.MeasureT-loop
+μ-loop forward table₀ byte₀ table byte = 256 - byte
+
+loop-holds : tie.Need-loop-holds Inv-loop μ-loop
+loop-holds c = (omega arith, filled-none (c .before .args .table .now) 0 (wordTable (c .before .args .forward)))
+
+cast-byte-word : tie.Need-cast-byte-word Inv-loop μ-loop
+cast-byte-word c = search needs
+
+byte-word-requires : tie.Need-byte-word-requires Inv-loop μ-loop
+byte-word-requires c κs = search needs
+
+mul-table : tie.Need-mul-table Inv-loop μ-loop
+mul-table c = search needs
+
+slice-write-table : tie.Need-slice-write-table Inv-loop μ-loop
+slice-write-table c = omega (arith, c .before .before .loop .inv .1 .sized)
+
+add-byte : tie.Need-add-byte Inv-loop μ-loop
+add-byte c = search needs
+
+loop-less : tie.Need-loop-less Inv-loop μ-loop
+loop-less c = search needs
+
+loop-again : tie.Need-loop-again Inv-loop μ-loop
+loop-again c =
+    let size = length-wordTable (c .before .before .before .before .args .forward) in (
+      omega arith,
+      filled-next (c .before .before .loop .byte) (c .byte-word .result) (c .before .before .loop .inv .1) (omega arith) (omega arith) (omega arith)
+          (c .byte-word .ensures ∙ sym (getD-wordTable (c .before .before .before .before .args .forward) (c .before .before .loop .byte) (c .before .loop-test .taken))),
+    )
+
+same-length : tie.Need-same-length Inv-loop μ-loop
+same-length c = c .before .loop .inv .1 .sized
+
+returns : tie.Need-returns Inv-loop μ-loop
+returns c =
+    let size = length-wordTable (c .before .before .before .args .forward) in
+    filled-all (c .before .loop .inv .1) (omega arith) (omega arith)
+    ∙ pasted-whole (c .before .before .before .args .table .now) (wordTable (c .before .before .before .args .forward)) (omega arith)
+
+pub fill-words-spec : {M : Type 1} → statement M
+fill-words-spec =
+    tie.close
+    (tie.spec
+    Inv-loop
+    μ-loop
+    loop-holds
+    cast-byte-word
+    byte-word-requires
+    mul-table
+    slice-write-table
+    add-byte
+    loop-less
+    loop-again
+    same-length
+    returns)

@@ -1,0 +1,138 @@
+-- `reference::put_pairs_reverse` meets its contract: the invariant: the letters of the pairs passed stand, and `byte` is where the
+-- next ends. The measure is what is left. Assumes nothing.
+use Prim.Native.Nat.{_≤_, _+_, _-_, _*_}
+use native.Mathlib.Omega.{arith}
+use mathlib.Core.Bool.{false}
+use mathlib.Core.Path.{_≡_, refl}
+use borrow.Author.Needs.{needs}
+use Rattle.reference.proofs.Stretches.{Written, written-none, pair-written, written-all}
+use Rattle.reference.proofs.put_pairs_reverse.Statement.{statement}
+use Rattle.reference.proofs.put_pairs_reverse.Tie as tie
+
+abbrev Inv-loop : tie.InvT-loop
+Inv-loop reference end pairs table out₀ at byte₀ k₀ out byte k =
+    (k ≤ pairs) × (byte + 2 * k ≡ end)
+    × (Written reference false (4 * end - 8 * pairs) (8 * pairs) out₀ out at (8 * k))
+
+abbrev μ-loop : tie.MeasureT-loop
+μ-loop reference end pairs table out₀ at byte₀ k₀ out byte k = pairs - k
+
+loop-holds : tie.Need-loop-holds Inv-loop μ-loop
+loop-holds c =
+    let a = c .before .before .args in
+    (omega arith, omega arith, written-none (a .reference .now) false (4 * a .end - 8 * a .pairs) (8 * a .pairs) (a .out .now) (a .at))
+
+mul-put-word : tie.Need-mul-put-word Inv-loop μ-loop
+mul-put-word c = search needs
+
+add-put-word : tie.Need-add-put-word Inv-loop μ-loop
+add-put-word c = search needs
+
+sub-wide : tie.Need-sub-wide Inv-loop μ-loop
+sub-wide c = search needs
+
+shared-slice-read-wide : tie.Need-shared-slice-read-wide Inv-loop μ-loop
+shared-slice-read-wide c = search needs
+
+wide-requires : tie.Need-wide-requires Inv-loop μ-loop
+wide-requires c κs = search needs
+
+mul-put-word-2 : tie.Need-mul-put-word-2 Inv-loop μ-loop
+mul-put-word-2 c = search needs
+
+element-copy-out-put-word : tie.Need-element-copy-out-put-word Inv-loop μ-loop
+element-copy-out-put-word c = search needs
+
+put-word-requires : tie.Need-put-word-requires Inv-loop μ-loop
+put-word-requires c κs = omega (arith, c .before .before .before .before .before .loop .inv .2 .sized)
+
+mul-put-word-3 : tie.Need-mul-put-word-3 Inv-loop μ-loop
+mul-put-word-3 c = search needs
+
+add-put-word-2 : tie.Need-add-put-word-2 Inv-loop μ-loop
+add-put-word-2 c = search needs
+
+add-put-word-3 : tie.Need-add-put-word-3 Inv-loop μ-loop
+add-put-word-3 c = search needs
+
+sub-wide-2 : tie.Need-sub-wide-2 Inv-loop μ-loop
+sub-wide-2 c = search needs
+
+shared-slice-read-wide-2 : tie.Need-shared-slice-read-wide-2 Inv-loop μ-loop
+shared-slice-read-wide-2 c = search needs
+
+wide-requires-2 : tie.Need-wide-requires-2 Inv-loop μ-loop
+wide-requires-2 c κs = search needs
+
+mul-put-word-4 : tie.Need-mul-put-word-4 Inv-loop μ-loop
+mul-put-word-4 c = search needs
+
+element-copy-out-put-word-2 : tie.Need-element-copy-out-put-word-2 Inv-loop μ-loop
+element-copy-out-put-word-2 c = search needs
+
+put-word-requires-2 : tie.Need-put-word-requires-2 Inv-loop μ-loop
+put-word-requires-2 c κs = omega (arith, c .before .before .before .before .before .before .before .before .before .before .before .before .loop .inv .2 .sized)
+
+sub-byte : tie.Need-sub-byte Inv-loop μ-loop
+sub-byte c = search needs
+
+add-k : tie.Need-add-k Inv-loop μ-loop
+add-k c = search needs
+
+loop-less : tie.Need-loop-less Inv-loop μ-loop
+loop-less c = search needs
+
+loop-again : tie.Need-loop-again Inv-loop μ-loop
+loop-again c =
+    let a = c .before .before .before .before .before .before .before .before .before .before .before .before .before .before .before .before .before .before .args in
+    let l = c .before .before .before .before .before .before .before .before .before .before .before .before .before .before .before .loop in
+    let x = c .before .before .before .before .before .before .before .before .before .before .before .wide in
+    let y = c .before .before .before .before .wide2 in
+    let lent = c .before .before .before .before .before .before .before .before .before .before .before .before .before .before .before .before .before .before .pre .3 in
+    let inside = c .before .before .before .before .before .before .before .before .before .before .before .before .before .before .loop-test .taken in (
+      omega arith,
+      omega arith,
+      pair-written (a .reference .now) false (4 * a .end - 8 * a .pairs) (8 * a .pairs) (a .table .now) (c .before .before .before .before .before .before .before .before .before .put-word .last .0)
+          (c .before .before .put-word2 .last .0) (a .at + 8 * l .k) (l .k) (l .byte - 1) (l .byte - 2) (x .result) (y .result) lent (l .inv .2)
+          (omega arith) (omega arith) (c .before .before .before .before .before .before .before .before .before .put-word .ensures) (c .before .before .put-word2 .ensures) refl (x .ensures .0) (x .ensures .1)
+          (y .ensures .0) (y .ensures .1) (omega arith) (omega arith),
+    )
+
+same-length : tie.Need-same-length Inv-loop μ-loop
+same-length c = c .before .loop .inv .2 .sized
+
+returns : tie.Need-returns Inv-loop μ-loop
+returns c =
+    let a = c .before .before .before .before .args in
+    written-all (a .reference .now) false (4 * a .end - 8 * a .pairs) (8 * a .pairs) (c .before .loop .inv .2) (omega arith) (omega arith)
+
+pub put-pairs-reverse-spec : {M : Type 1} → statement M
+put-pairs-reverse-spec =
+    tie.close
+    (tie.spec
+    Inv-loop
+    μ-loop
+    loop-holds
+    mul-put-word
+    add-put-word
+    sub-wide
+    shared-slice-read-wide
+    wide-requires
+    mul-put-word-2
+    element-copy-out-put-word
+    put-word-requires
+    mul-put-word-3
+    add-put-word-2
+    add-put-word-3
+    sub-wide-2
+    shared-slice-read-wide-2
+    wide-requires-2
+    mul-put-word-4
+    element-copy-out-put-word-2
+    put-word-requires-2
+    sub-byte
+    add-k
+    loop-less
+    loop-again
+    same-length
+    returns)
