@@ -1,7 +1,7 @@
 -- The record at a place of the DNA section (level 2: answers; 01, Numbers of refusal, the order in a record):
 -- every field is read, whatever the bytes are, and then judged; the first fault that fits is the answer.
 use Prim.Native.Nat.{ℕ, zero, suc, _+_, _-_, _*_, _/_, _%_}
-use mathlib.Core.Bool.{Bool, not, cond}
+use mathlib.Core.Bool.{cond}
 use mathlib.Core.List.{List, [], _∷_}
 use lib.ListN.{length, getD}
 use lib.Dec.{leb, ltb, eqb}
@@ -88,7 +88,7 @@ fieldsAt context list at =
 -- ---- The N list, field by field
 
 -- The number at `at` in words of 16 bits: each word is a field, 12 where it is cut, else 20 if it is above
--- 32768 or leads to a place that is not below the bound. No bound needs more words than `words`.
+-- 32768 or leads to a place that is not below the bound. `words` is how many it may take at most.
 unfoldable pub varint16At : (words : ℕ) (bound place : ℕ) (list : List ℕ) (at : ℕ) → Scan ℕ
 varint16At zero bound place list at = refused 20
 varint16At (suc words) bound place list at =

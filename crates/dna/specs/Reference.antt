@@ -40,9 +40,13 @@ strandBase reference forward index =
 unfoldable pub stretchIndex : (forward : Bool) (leftmost bases k : ℕ) → ℕ
 stretchIndex forward leftmost bases k = leftmost + cond forward k (bases - suc k)
 
--- The ASCII capitals of the codes 0 to 4: A, C, G, T, N.
+-- The letters in ASCII capitals: A, C, G, T, N.
+abbrev pub alphabet : List ℕ
+alphabet = 65 ∷ 67 ∷ 71 ∷ 84 ∷ 78 ∷ []
+
+-- The letter of a code 0 to 4.
 unfoldable pub letterOfCode : (code : ℕ) → ℕ
-letterOfCode code = getD (65 ∷ 67 ∷ 71 ∷ 84 ∷ 78 ∷ []) code 0
+letterOfCode code = getD alphabet code 0
 
 -- The letters of a stretch of so many bases from `leftmost` on, as a strand prints them.
 unfoldable pub stretchLetters : (reference : List ℕ) (forward : Bool) (leftmost bases : ℕ) → List ℕ

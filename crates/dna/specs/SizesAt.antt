@@ -1,7 +1,7 @@
--- The lengths that a size section gives (level 2: answers; 01, Lengths). Every fault of the section is refusal 9,
--- so their order does not matter.
+-- The lengths that a size section gives (level 2: answers; 01, Lengths). Whatever number a scan of it gives, the
+-- block's answer is 9, so that the order of the faults does not matter.
 use Prim.Native.Nat.{ℕ, zero, suc, _+_}
-use mathlib.Core.Bool.{Bool, cond, _&&_, _||_}
+use mathlib.Core.Bool.{Bool, cond, _&&_}
 use mathlib.Core.List.{List, [], _∷_, _++_}
 use lib.ListN.{length, getD}
 use lib.Dec.{leb, ltb}
@@ -9,7 +9,7 @@ use Rattle.base.specs.Lists.{any}
 use Rattle.base.specs.Groups.{groupSizes, byteBitStray}
 use Rattle.base.specs.Packed.{bit}
 use Rattle.base.specs.Faults.{fault}
-use Rattle.base.specs.Scan.{Scan, found, refused, checked, andThen}
+use Rattle.base.specs.Scan.{Scan, found, checked, andThen}
 use Rattle.dna.specs.Sizes.{
   maxReadLength,
   StoredSize,

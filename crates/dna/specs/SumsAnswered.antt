@@ -2,12 +2,16 @@
 use Prim.Native.Nat.{ℕ}
 use mathlib.Core.Path.{_≡_}
 use mathlib.Core.Bool.{cond}
-use mathlib.Core.List.{List, [], _∷_}
+use mathlib.Core.List.{List, [], _∷_, map}
 use lib.ListN.{length, getD, replicate}
 use lib.Dec.{eqb}
 use Rattle.base.specs.Lists.{All}
-use Rattle.dna.specs.Counts.{Counted}
 use Rattle.dna.specs.Division.{Division, divisionLetters, divisionCounts}
+use Rattle.base.specs.Scan.{found}
+use Rattle.base.specs.Faults.{Fault}
+use Rattle.dna.specs.Record.{ReadContext, RecordFields}
+use Rattle.dna.specs.RecordFaults.{fieldFaults}
+use Rattle.dna.specs.SizesAt.{sizesAnswer}
 use Rattle.dna.specs.Walk.{Walk, walked, stopped, sectionWalk}
 use Rattle.dna.specs.Sums.{
   A,
@@ -45,11 +49,11 @@ unfoldable pub sectionGives : (gives : Gives) → SectionGives
 sectionGives (letters given entries differences) = reads (given ∷ []) entries differences
 sectionGives (refused number) = refusedAt number 0
 
--- Rows on sizes are claimed of the definitions alone.
+-- The walk over the row's section gives what the row says; the size section of a row on lengths gives them.
 abbrev pub RowAnswered : (row : Row) → Type 0
 RowAnswered (recordRow readLength bytes fields nOffsets gives) =
     givenBy (readLength ∷ []) bytes (sectionWalk 12 (readLength ∷ []) (getD bytes 2 0 ∷ []) bytes) ≡ sectionGives gives
-RowAnswered (sizesRow lengths section) = Unit {0}
+RowAnswered (sizesRow lengths section) = sizesAnswer (length lengths) section ≡ found lengths (length section)
 
 -- A further row: lengths, N section, DNA section and what it gives.
 pub record FurtherRow : Type 0 where
@@ -108,6 +112,13 @@ abbrev pub FurtherRight : (row : FurtherRow) → Type 0
 FurtherRight row =
     givenBy (row .lengths) (row .dna) (sectionWalk 12 (row .lengths) (row .nSection) (row .dna)) ≡ row .gives
 
+-- The order in which a record's fields are judged (01, Numbers of refusal: then 13, 16, 15, 17, 18, 19), with raw4's
+-- bit last.
+abbrev pub OrderRight : Type 0
+OrderRight =
+    (context : ReadContext) (fields : RecordFields)
+    → map (λ f. f .number) (fieldFaults context fields) ≡ 13 ∷ 16 ∷ 15 ∷ 17 ∷ 18 ∷ 19 ∷ 20 ∷ []
+
 -- The walk answers every row of the table, and every further row, as it says.
 abbrev pub TableAnswered : Type 0
-TableAnswered = All RowAnswered rows × All FurtherRight furtherRows
+TableAnswered = All RowAnswered rows × All FurtherRight furtherRows × OrderRight

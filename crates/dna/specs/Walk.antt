@@ -1,6 +1,6 @@
 -- The walk over a DNA section (level 2: answers; 01, Numbers of refusal: DNA group by group): its division, or
 -- the first fault and the index of the read it is given for.
-use Prim.Native.Nat.{ℕ, zero, suc, _+_}
+use Prim.Native.Nat.{ℕ, suc, _+_}
 use mathlib.Core.Bool.{cond, not}
 use mathlib.Core.List.{List, [], _∷_}
 use lib.ListN.{length, getD, drop}
@@ -8,7 +8,7 @@ use lib.Dec.{ltb, eqb}
 use Rattle.base.specs.Groups.{inGroups}
 use Rattle.base.specs.Faults.{Fault, fault}
 use Rattle.base.specs.Scan.{Scan, found, refused}
-use Rattle.dna.specs.Record.{ReadContext, StoredRecord, recordBytes}
+use Rattle.dna.specs.Record.{ReadContext, recordBytes}
 use Rattle.dna.specs.Alignment.{positionAfter}
 use Rattle.dna.specs.Division.{
   GroupFlags,

@@ -9,11 +9,9 @@ use mathlib.Core.List.{List, [], _∷_, _++_}
 use lib.ListN.{length}
 use Rattle.base.specs.Lists.{AllBytes}
 use Rattle.dna.specs.Reference.{ReferenceFits}
-use Rattle.dna.proofs.OneDivision.{one-division}
-use Rattle.format.specs.Sections.{sectionOf, dnaNumber, nNumber}
 use Rattle.format.specs.Demands.{Demand3}
 use Blocks.{file-answer, FileFound, file-found, one-list, own-divisions}
-use Prefixes.{prefix}
+use Prefixes.{one-divided, prefix}
 
 -- One claim about every reference, file and list of blocks. Judging accepts exactly the files joined from
 -- well-formed blocks; that list is unique; the answer is its number and the sums modulo 2 ^ 64, whatever divisions
@@ -31,6 +29,5 @@ demand-3 bases reference fits =
       one-list = λ file bs cs wfs wgs j k. one-list bases bs cs wfs wgs (j ∙ sym k);
       answer = λ file blocks ds wfs j d. file-answer bases reference file blocks ds fits wfs j d;
       prefixes = λ front whole bytes zf zw begins bs cs wfs wgs j k. prefix bases reference front whole bs cs wfs wgs j k begins;
-      one-division = λ block lengths one other wf are d e.
-          one-division bases lengths (sectionOf block nNumber) (sectionOf block dnaNumber) one other d e;
+      one-division = λ block one other wf d e. one-divided bases block one other d e;
     }

@@ -5,3 +5,4 @@ pub mod RefusedNothing
 pub mod ReadsExactly
 pub mod JudgesFiles
 pub mod ExamplesHold
+pub mod HeaderWritten

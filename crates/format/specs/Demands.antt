@@ -1,23 +1,26 @@
--- The demands (01, What a reviewer may lean on), as types over the definitions. That every call ends and harms
--- nothing is what the prover shows of each function; what each call answers is its contract. The proofs stand in
--- proofs/. No premise is needed beyond 01's, and what a lent type can hold.
-use Prim.Native.Nat.{ℕ, _+_, _≤_, _<_, _^_}
+-- The demands (01, What a reviewer may lean on), as types over the definitions.
+-- 1: every call ends and harms nothing; a fault is refused by its number and read index, and every lent buffer then
+-- holds what it held before. (That a call ends and harms nothing the prover shows of each function; which number it
+-- is, and in which order, is the call's answer.)
+-- 2: a well-formed block gives exactly the letters, lengths and counts defined, and no other block is accepted; every
+-- list of reads within the limits is written by the fixed rule and reads back.
+-- 3: one claim over every reference, file and list of blocks.
+-- The proofs stand in proofs/. Each premise is 01's, or says what a lent type can hold.
+use Prim.Native.Nat.{ℕ, _≤_, _<_, _^_}
 use mathlib.Core.Path.{_≡_}
 use mathlib.Core.Logic.{_↔_}
 use mathlib.Core.Bool.{Bool, true, false, _&&_, _||_}
-use mathlib.Core.List.{List, [], _∷_, _++_, map, flatten}
-use lib.ListN.{length, drop}
+use mathlib.Core.List.{List, _++_, map, flatten}
+use lib.ListN.{length}
 use lib.Dec.{leb, eqb}
 use Rattle.base.specs.Paste.{pasted}
-use Rattle.base.specs.Lists.{total, placesFrom, All, Begins, Below, AllBytes}
-use Rattle.dna.specs.Reference.{ReferenceFits}
+use Rattle.base.specs.Lists.{member, total, placesFrom, All, Begins, Below, AllBytes}
+use Rattle.dna.specs.Reference.{alphabet, ReferenceFits}
 use Rattle.dna.specs.Sizes.{lengthInvalid}
 use Rattle.dna.specs.Counts.{Counted, zeroCounts, sumCounts, recordCounts}
-use Rattle.dna.specs.Division.{Division, SameDivision, Divides, readEnds}
+use Rattle.dna.specs.Division.{SameDivision, divisionBytes, readEnds}
 use Rattle.format.specs.Header.{headerOf, readCount}
-use Rattle.format.specs.Sections.{sectionOf, dnaNumber, nNumber}
 use Rattle.format.specs.HeaderFaults.{maxReads}
-use Rattle.format.specs.Lengths.{LengthsAre}
 use Rattle.format.specs.WellFormed.{BlockDivision, DividesBlock, WellFormed}
 use Rattle.format.specs.Joined.{
   Joined,
@@ -29,7 +32,7 @@ use Rattle.format.specs.Joined.{
   fileReads,
   fileCounts,
 }
-use Rattle.format.specs.Outcome.{Outcome, acceptedBlock, acceptedFile, modulo64}
+use Rattle.format.specs.Outcome.{Outcome, refusal, acceptedBlock, acceptedFile, modulo64}
 use Rattle.format.specs.BlockAnswer.{
   validatedBlock,
   decoded,
@@ -37,7 +40,15 @@ use Rattle.format.specs.BlockAnswer.{
   decodedEnds,
 }
 use Rattle.format.specs.FileAnswer.{validated}
-use Rattle.format.specs.FixedRule.{Candidate, codeOfLetter, writtenFrom, writtenDivision}
+use Rattle.format.specs.FixedRule.{
+  Candidate,
+  codeOfLetter,
+  writtenFrom,
+  writtenDivision,
+  writtenNSection,
+  writtenSizes,
+  writtenHeader,
+}
 use Rattle.format.specs.EncodeAnswer.{EncodeInput, candidatesOf, blockOf, encoded, encodedBuffer}
 
 -- ---- Demand 1: a refused call changes nothing and counts nothing
@@ -59,6 +70,18 @@ pub record Refusal (own : ℕ → Bool) (reads : ℕ) (outcome : Outcome) : Type
   pub no-counts : outcome .counts ≡ zeroCounts
   pub read-index : 0 < outcome .read → outcome .read < reads
 
+-- A refused file: the blocks before the one that is refused, and what begins with it. (Where the reference earns 1
+-- there are none before it.)
+pub record FileRefusal (bases : ℕ) (reference file : List ℕ) (outcome : Outcome) : Type 0 where
+  pub before : List (List ℕ)
+  pub rest : List ℕ
+  pub wellFormed : AllWellFormed bases before
+  pub begins : flatten before ++ rest ≡ file
+  pub block-index : outcome .block ≡ length before
+  pub refused : validatedBlock bases reference rest ≡ refusal (outcome .number) 0 (outcome .read)
+  pub nothing : Refusal (upTo 21) (readCount (headerOf rest)) outcome
+
+-- Demand 1.
 pub record Demand1 : Type 0 where
   -- Decoding: both lent buffers hold what they held before.
   pub decode : (bases : ℕ) (reference input letters ends : List ℕ)
@@ -71,9 +94,10 @@ pub record Demand1 : Type 0 where
   pub validateBlock : (bases : ℕ) (reference input : List ℕ) → 0 < validatedBlock bases reference input .number
       → Refusal (upTo 21) (readCount (headerOf input)) (validatedBlock bases reference input)
       × (validatedBlock bases reference input .block ≡ 0)
-  -- Judging a file: the read's index is one of the block that was refused, which begins at some place of the file.
-  pub validate : (bases : ℕ) (reference file : List ℕ) → 0 < validated bases reference file .number
-      → (place : ℕ) × Refusal (upTo 21) (readCount (headerOf (drop place file))) (validated bases reference file)
+  -- Judging a file: it begins with well-formed blocks, as many as the block index says, and what follows them is
+  -- refused with that number and read index.
+  pub validate : (bases : ℕ) (reference file : List ℕ) → AllBytes file → 0 < validated bases reference file .number
+      → FileRefusal bases reference file (validated bases reference file)
   -- Encoding: the lent buffer holds what it held before, and both indices are 0.
   pub encode : (bases : ℕ) (reference : List ℕ) (input : EncodeInput) (out : List ℕ)
       → 0 < encoded bases reference input out .number
@@ -128,25 +152,28 @@ Demand2Reading = (bases : ℕ) (reference : List ℕ) → ReferenceFits bases re
 
 -- ---- Demand 2, writing: every list of reads is written by the fixed rule and reads back
 
--- Reads within the limits: at most 50,000, each of 1 to 100,000 letters of A, C, G, T, N, in all below 2 ^ 32; four
--- proposals a read, whatever they say; b_id and c_time of 64 bits.
+-- What the lent types can hold: 32-bit ends and positions, bytes, b_id and c_time of 64 bits.
+pub record LentFits (input : EncodeInput) : Type 0 where
+  pub ends : Below (2 ^ 32) (input .ends)
+  pub positions : Below (2 ^ 32) (input .positions)
+  pub strands : AllBytes (input .strands)
+  pub lefts : AllBytes (input .lefts)
+  pub rights : AllBytes (input .rights)
+  pub id : input .id < 2 ^ 64
+  pub time : input .time < 2 ^ 64
+
+-- The input is these reads, within the limits: at most 50,000, each of 1 to 100,000 letters of A, C, G, T, N, one after
+-- the other; with four proposals a read, whatever they say.
 pub record Writable (reads : List (List ℕ)) (input : EncodeInput) : Type 0 where
   pub few : length reads ≤ maxReads
   pub lengths : All (λ read. lengthInvalid (length read) ≡ false) reads
-  pub letters : All (λ read. All (λ letter. codeOfLetter letter < 5) read) reads
-  pub small : total (map length reads) < 2 ^ 32
+  pub letters : All (λ read. All (λ letter. member letter alphabet ≡ true) read) reads
   pub letters-are : input .letters ≡ flatten reads
   pub ends-are : input .ends ≡ placesFrom 0 (map length reads)
   pub positions : length (input .positions) ≡ length reads
   pub strands : length (input .strands) ≡ length reads
   pub lefts : length (input .lefts) ≡ length reads
   pub rights : length (input .rights) ≡ length reads
-  pub positions-fit : Below (2 ^ 32) (input .positions)
-  pub strands-fit : AllBytes (input .strands)
-  pub lefts-fit : AllBytes (input .lefts)
-  pub rights-fit : AllBytes (input .rights)
-  pub id-fits : input .id < 2 ^ 64
-  pub time-fits : input .time < 2 ^ 64
 
 -- The reads as codes.
 abbrev pub codesOf : (reads : List (List ℕ)) → List (List ℕ)
@@ -164,6 +191,12 @@ pub record Writes (bases : ℕ) (reference : List ℕ) (reads : List (List ℕ))
       → encoded bases reference input out ≡ acceptedBlock (length (blockOf bases reference input)) zeroCounts
   pub buffer : (out : List ℕ) → length (blockOf bases reference input) ≤ length out
       → encodedBuffer bases reference input out ≡ pasted out 0 (blockOf bases reference input)
+  -- Its header is the fixed rule's, what reading does not look at included.
+  pub header : headerOf (blockOf bases reference input)
+      ≡ writtenHeader (input .id) (input .time)
+      (length (divisionBytes (writtenDivision bases reference (codesOf reads) (candidatesOf input))))
+      (writtenSizes (map length reads))
+      (writtenNSection (writtenDivision bases reference (codesOf reads) (candidatesOf input))) (map length reads)
   -- The block is well-formed, and the records of its division are the fixed rule's.
   pub wellFormed : WellFormed bases (blockOf bases reference input)
   pub division : (divided : BlockDivision) → DividesBlock bases (blockOf bases reference input) divided
@@ -177,10 +210,17 @@ pub record Writes (bases : ℕ) (reference : List ℕ) (reads : List (List ℕ))
       × (decodedEnds bases reference (blockOf bases reference input ++ rest) letters ends
       ≡ pasted ends 0 (placesFrom 0 (map length reads)))
 
+pub record WritesBlocks (bases : ℕ) (reference : List ℕ) : Type 0 where
+  -- The writer accepts exactly the reads within the limits for which the buffer has room.
+  pub accepted : (input : EncodeInput) (out : List ℕ) → LentFits input
+      → (encoded bases reference input out .number ≡ 0)
+      ↔ ((reads : List (List ℕ)) × Writable reads input × (length (blockOf bases reference input) ≤ length out))
+  -- Every such list of reads is written by the fixed rule and reads back, however wrong the proposals are.
+  pub writes : (reads : List (List ℕ)) (input : EncodeInput) → LentFits input → Writable reads input
+      → Writes bases reference reads input
+
 abbrev pub Demand2Writing : Type 0
-Demand2Writing =
-    (bases : ℕ) (reference : List ℕ) → ReferenceFits bases reference → AllBytes reference
-    → (reads : List (List ℕ)) (input : EncodeInput) → Writable reads input → Writes bases reference reads input
+Demand2Writing = (bases : ℕ) (reference : List ℕ) → ReferenceFits bases reference → WritesBlocks bases reference
 
 -- ---- Demand 3: judging files
 
@@ -211,10 +251,10 @@ pub record JudgesFiles (bases : ℕ) (reference : List ℕ) : Type 0 where
       → validated bases reference whole .number ≡ 0 → Begins front whole
       → (bs cs : List (List ℕ)) → AllWellFormed bases bs → AllWellFormed bases cs → Joined bs front → Joined cs whole
       → Prefix bases reference front whole bs cs
-  -- Inside a block the division of the DNA section is unique.
-  pub one-division : (block lengths : List ℕ) (one other : Division) → WellFormed bases block → LengthsAre block lengths
-      → Divides bases lengths (sectionOf block nNumber) (sectionOf block dnaNumber) one
-      → Divides bases lengths (sectionOf block nNumber) (sectionOf block dnaNumber) other → SameDivision one other
+  -- Inside a block the lengths and the division of the DNA section are unique: two divisions that meet the rules
+  -- agree in every cut, kind and field.
+  pub one-division : (block : List ℕ) (one other : BlockDivision) → WellFormed bases block → DividesBlock bases block one
+      → DividesBlock bases block other → (one .lengths ≡ other .lengths) × SameDivision (one .division) (other .division)
 
 -- One claim about every reference, file and list of blocks.
 abbrev pub Demand3 : Type 0

@@ -1,22 +1,23 @@
 -- What encoding a block answers (level 2; 01, Numbers of refusal, writer: 1, 30 to 34), and what the lent buffer
 -- then holds. No candidate is refused.
-use Prim.Native.Nat.{ℕ, _+_, _-_}
+use Prim.Native.Nat.{ℕ, _-_}
 use mathlib.Core.Bool.{Bool, cond, not, _||_}
-use mathlib.Core.List.{List, [], _∷_, _++_, map}
-use lib.ListN.{length, getD, drop}
+use mathlib.Core.List.{List, [], _∷_, map}
+use lib.ListN.{length, getD}
 use lib.Dec.{ltb, eqb}
 use Rattle.base.specs.Lists.{build, part, any, member, stepsFrom}
 use Rattle.base.specs.Faults.{Fault, fault}
 use Rattle.base.specs.Paste.{pasted}
 use Rattle.base.specs.Scan.{firstNumber}
 use Rattle.dna.specs.Counts.{zeroCounts}
-use Rattle.dna.specs.Reference.{referenceSizeWrong}
+use Rattle.dna.specs.Reference.{alphabet, referenceSizeWrong}
 use Rattle.dna.specs.Sizes.{lengthInvalid}
 use Rattle.format.specs.HeaderFaults.{maxReads}
 use Rattle.format.specs.Outcome.{Outcome, refusal, acceptedBlock}
 use Rattle.format.specs.FixedRule.{Candidate, codeOfLetter, ruleBlock}
 
--- What the caller lends to the writer: letters in ASCII, the ends of the reads, and four buffers of proposals.
+-- What the caller lends to the writer (01, The writer's fixed rule): letters in ASCII, the ends of the reads, and four
+-- buffers of proposals; b_id and c_time are given.
 pub record EncodeInput : Type 0 where
   pub letters : List ℕ
   pub ends : List ℕ
@@ -70,7 +71,7 @@ readEndsInvalid input =
 
 -- 33: a letter not A, C, G, T, N.
 unfoldable pub letterInvalid : (input : EncodeInput) → Bool
-letterInvalid input = any (λ letter. not (member letter (65 ∷ 67 ∷ 71 ∷ 84 ∷ 78 ∷ []))) (input .letters)
+letterInvalid input = any (λ letter. not (member letter alphabet)) (input .letters)
 
 -- The faults of encoding in 01's order; `room` is the length of the lent buffer.
 unfoldable pub encodeFaults : (bases : ℕ) (reference : List ℕ) (input : EncodeInput) (room : ℕ) → List Fault

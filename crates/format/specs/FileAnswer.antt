@@ -27,15 +27,17 @@ unfoldable pub onBlock : (answer : BlockAnswer) (rest : FileAnswer) → FileAnsw
 onBlock (accepts divided) rest = afterBlock divided rest
 onBlock (refuses number read) rest = refusesFile number 0 read
 
--- The blocks of a file, at most so many of them; none where no byte is left.
+-- The blocks of a file, at most so many of them; none where no byte is left. The last clause but one is not reached
+-- from fileAnswer: a block has bytes, so that a file has no more blocks than bytes.
 unfoldable pub blocksAnswer : (most bases : ℕ) (reference file : List ℕ) → FileAnswer
-blocksAnswer zero bases reference file = acceptsFile []
+blocksAnswer zero bases reference [] = acceptsFile []
 blocksAnswer (suc most) bases reference [] = acceptsFile []
+blocksAnswer zero bases reference (byte ∷ bytes) = refusesFile 2 0 0
 blocksAnswer (suc most) bases reference (byte ∷ bytes) =
     onBlock (blockAnswer bases reference (byte ∷ bytes))
     (blocksAnswer most bases reference (drop (blockLength (headerOf (byte ∷ bytes))) (byte ∷ bytes)))
 
--- A file has fewer blocks than bytes. The empty file is accepted unless the reference earns 1.
+-- The empty file is accepted unless the reference earns 1.
 unfoldable pub fileAnswer : (bases : ℕ) (reference file : List ℕ) → FileAnswer
 fileAnswer bases reference file =
     cond (referenceSizeWrong bases reference) (refusesFile 1 0 0) (blocksAnswer (length file) bases reference file)

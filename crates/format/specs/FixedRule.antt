@@ -1,6 +1,6 @@
 -- The writer's fixed rule (01, The writer's fixed rule): for each read, candidate and position before it, the
 -- record; and the block that follows from a list of reads.
-use Prim.Native.Nat.{ℕ, zero, suc, _+_, _-_, _*_, _/_, _^_}
+use Prim.Native.Nat.{ℕ, suc, _+_, _-_, _*_, _/_, _^_}
 use mathlib.Core.Bool.{Bool, true, false, cond, not, _&&_, _||_}
 use mathlib.Core.List.{List, [], _∷_, _++_, map, flatten}
 use lib.ListN.{length, getD, take, drop, replicate}
@@ -10,7 +10,7 @@ use Rattle.base.specs.Lists.{build, part, any, member, indexOf, placesWhere, st
 use Rattle.base.specs.Groups.{inGroups}
 use Rattle.base.specs.Numbers.{leBytes}
 use Rattle.base.specs.Packed.{byteOf, packedLength}
-use Rattle.dna.specs.Reference.{strandBase, stretchIndex}
+use Rattle.dna.specs.Reference.{alphabet, strandBase, stretchIndex}
 use Rattle.dna.specs.Sizes.{StoredSize, same, inByte, inWords, sizeSectionBytes}
 use Rattle.dna.specs.Record.{
   ReadContext,
@@ -26,7 +26,7 @@ use Rattle.dna.specs.Record.{
   recordBytes,
 }
 use Rattle.dna.specs.Alignment.{positionAfter}
-use Rattle.dna.specs.Division.{GroupFlags, Piece, Group, Division, Read, divisionBytes}
+use Rattle.dna.specs.Division.{Group, Division, divisionBytes}
 use Rattle.format.specs.Header.{Header}
 
 -- ---- Reads and candidates
@@ -39,9 +39,9 @@ pub record Candidate : Type 0 where
   pub left : ℕ
   pub right : ℕ
 
--- The codes 0 to 4 of the letters A, C, G, T, N.
+-- The code 0 to 4 of a letter A, C, G, T, N; 5 of any other.
 unfoldable pub codeOfLetter : (letter : ℕ) → ℕ
-codeOfLetter letter = indexOf letter (65 ∷ 67 ∷ 71 ∷ 84 ∷ 78 ∷ [])
+codeOfLetter letter = indexOf letter alphabet
 
 -- The N list of a read's codes.
 unfoldable pub nOffsetsOf : (codes : List ℕ) → List ℕ
@@ -152,7 +152,7 @@ alignedFields reference previous codes candidate =
     (local (fieldFor previous candidate) (candidateEntries reference codes candidate) (candidate .left)
     (candidate .right) (padded 4 (clippedCodes codes candidate)))
 
--- The kind of record that a read gets.
+-- Whether a read gets a raw4 record, one at its place (perfect, global or local), or a raw one.
 pub data Choice : Type 0 where
   chooseRaw4 chooseAligned chooseRaw : Choice
 
@@ -162,7 +162,7 @@ choiceFor bases reference codes candidate =
     cond (ltb 31 (length (nOffsetsOf codes))) chooseRaw4
     (cond (placeUsed bases reference codes candidate) chooseAligned chooseRaw)
 
--- A record with the read's bits; Forward and pos_t bits of a raw kind are 0.
+-- A record, with what is known before it: the read's bits.
 pub record Written : Type 0 where
   pub context : ReadContext
   pub stored : StoredRecord
@@ -176,8 +176,8 @@ isPerfect (raw letters) = false
 isPerfect (raw4 letters) = false
 
 -- What is known of a read before its record, by the bits that are written for it.
-abbrev pub bitsFor : (bases previous : ℕ) (codes : List ℕ) (perfectBit forward incremental : Bool) → ReadContext
-bitsFor bases previous codes perfectBit forward incremental =
+abbrev pub contextFor : (bases previous : ℕ) (codes : List ℕ) (perfectBit forward incremental : Bool) → ReadContext
+contextFor bases previous codes perfectBit forward incremental =
     record {
       readLength = length codes;
       referenceBases = bases;
@@ -188,24 +188,24 @@ bitsFor bases previous codes perfectBit forward incremental =
       incremental = incremental;
     }
 
--- The record of a choice.
+-- The record of a choice; Forward and pos_t bits of a raw kind are 0.
 unfoldable pub writtenAs : (choice : Choice) (bases : ℕ) (reference : List ℕ) (previous : ℕ) (codes : List ℕ)
     (candidate : Candidate) → Written
 writtenAs chooseRaw4 bases reference previous codes candidate =
     record {
-      context = bitsFor bases previous codes false false false;
+      context = contextFor bases previous codes false false false;
       stored = record { fields = raw4 (padded 2 codes); nOffsets = [] };
     }
 writtenAs chooseAligned bases reference previous codes candidate =
     record {
       context =
-          bitsFor bases previous codes (isPerfect (alignedFields reference previous codes candidate))
+          contextFor bases previous codes (isPerfect (alignedFields reference previous codes candidate))
           (eqb (candidate .strand) 1) (stepFits previous candidate);
       stored = record { fields = alignedFields reference previous codes candidate; nOffsets = nOffsetsOf codes };
     }
 writtenAs chooseRaw bases reference previous codes candidate =
     record {
-      context = bitsFor bases previous codes false false false;
+      context = contextFor bases previous codes false false false;
       stored = record { fields = raw (padded 4 (map withoutN codes)); nOffsets = nOffsetsOf codes };
     }
 

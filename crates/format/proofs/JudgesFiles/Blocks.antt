@@ -41,7 +41,7 @@ block-some bases block wf = faults-right block (wf .noHeaderFault) .table
 
 -- ---- Well-formed blocks, then accepted
 
-step : (most bases : ℕ) (reference file : List ℕ) → 0 < length file
+pub step : (most bases : ℕ) (reference file : List ℕ) → 0 < length file
     → blocksAnswer (suc most) bases reference file
     ≡ onBlock (blockAnswer bases reference file) (blocksAnswer most bases reference (drop (blockLength (headerOf file)) file))
 unfolding blocksAnswer
@@ -107,7 +107,7 @@ on-parts (accepts divided) (acceptsFile more) e use′ = use′ divided more ref
 on-parts (accepts divided) (refusesFile number block read) e use′ = absurd-file e
 on-parts (refuses number read) rest e use′ = absurd-file e
 
-bytes-drop : (n : ℕ) (file : List ℕ) → AllBytes file → AllBytes (drop n file)
+pub bytes-drop : (n : ℕ) (file : List ℕ) → AllBytes file → AllBytes (drop n file)
 bytes-drop n file bytes =
     record {
       each = λ k h.
@@ -165,7 +165,8 @@ on-1 last reads (refuses number read) rest a h = a .least
 
 blocks-1 : (most bases : ℕ) (reference file : List ℕ) → Refuses1 (blocksAnswer most bases reference file)
 unfolding blocksAnswer
-blocks-1 zero bases reference file = tt
+blocks-1 zero bases reference [] = tt
+blocks-1 zero bases reference (byte ∷ bytes) = omega arith
 blocks-1 (suc most) bases reference [] = tt
 blocks-1 (suc most) bases reference (byte ∷ bytes) =
     on-1 21 (readCount (headerOf (byte ∷ bytes))) (blockAnswer bases reference (byte ∷ bytes)) _ (block-own bases reference (byte ∷ bytes))

@@ -7,7 +7,7 @@ use mathlib.Core.List.{List, [], _∷_, _++_, flatten, flatMap, append-assoc, he
 use lib.ListN.{length, length-append}
 use Rattle.base.specs.Lists.{All, Begins}
 use Rattle.base.proofs.ListLaws.{all-left}
-use Rattle.dna.specs.Division.{Divides}
+use Rattle.dna.specs.Division.{Divides, SameDivision}
 use Rattle.dna.proofs.OneDivision.{one-division}
 use Rattle.format.specs.Sections.{sectionOf, dnaNumber, nNumber}
 use Rattle.format.specs.WellFormed.{BlockDivision, DividesBlock, WellFormed}
@@ -18,14 +18,20 @@ use Rattle.format.proofs.JudgesFiles.Blocks.{block-some, blocks-begin, 
 
 -- ---- Divisions
 
--- A block has one division.
+-- A block has one list of lengths, and one division.
+pub one-divided : (bases : ℕ) (block : List ℕ) (one other : BlockDivision) → DividesBlock bases block one → DividesBlock bases block other
+    → (one .lengths ≡ other .lengths) × SameDivision (one .division) (other .division)
+one-divided bases block one other d e =
+    let lengths : one .lengths ≡ other .lengths = one-lengths block (one .lengths) (other .lengths) (d .lengths-are) (e .lengths-are) in (
+      lengths,
+      one-division bases (other .lengths) (sectionOf block nNumber) (sectionOf block dnaNumber) (one .division) (other .division)
+          (subst (λ (l : List ℕ). Divides bases l (sectionOf block nNumber) (sectionOf block dnaNumber) (one .division)) lengths (d .divides)) (e .divides),
+    )
+
 divided-same : (bases : ℕ) (block : List ℕ) (one other : BlockDivision) → DividesBlock bases block one → DividesBlock bases block other → one ≡ other
 divided-same bases block one other d e =
-    let lengths : one .lengths ≡ other .lengths = one-lengths block (one .lengths) (other .lengths) (d .lengths-are) (e .lengths-are) in
-    let division : one .division ≡ other .division =
-    one-division bases (other .lengths) (sectionOf block nNumber) (sectionOf block dnaNumber) (one .division) (other .division)
-    (subst (λ (l : List ℕ). Divides bases l (sectionOf block nNumber) (sectionOf block dnaNumber) (one .division)) lengths (d .divides)) (e .divides) in
-    ap₂ (λ l x. record { lengths = l; division = x }) lengths division
+    let same = one-divided bases block one other d e in
+    ap₂ (λ l x. record { lengths = l; division = x }) (same .0) (same .1)
 
 divisions-begin : (bases : ℕ) (bs more : List (List ℕ)) (ds es : List BlockDivision) → DivideBlocks bases bs ds → DivideBlocks bases (bs ++ more) es
     → Begins ds es

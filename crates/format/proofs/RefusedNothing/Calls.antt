@@ -1,22 +1,23 @@
 -- Each call's refusals. Assumes nothing.
-use mathlib.Core.Path.{_≡_, refl, sym, ap, _∙_, subst}
+use mathlib.Core.Path.{_≡_, refl, sym, ap, ap₂, _∙_, subst}
 use Prim.Native.Nat.{ℕ, zero, suc, _+_, _≤_, _<_}
 use native.Mathlib.Omega.{arith}
 use mathlib.Core.Bool.{Bool, true, false, cond, _&&_, _||_}
-use mathlib.Core.List.{List, [], _∷_}
-use lib.ListN.{length, drop}
-use lib.Seq.{drop-drop}
+use mathlib.Core.List.{List, [], _∷_, _++_, flatten, append-assoc}
+use lib.ListN.{length, drop, length-append}
+use lib.Seq.{drop-at}
 use lib.Dec.{leb, ltb, eqb}
 use borrow.Author.Tests.{le-leb, eqb-false, ne-eqb}
-use Rattle.base.specs.Lists.{All}
+use Rattle.base.specs.Lists.{All, AllBytes}
 use Rattle.base.specs.Faults.{Fault, fault}
 use Rattle.base.specs.Scan.{firstNumber}
 use Rattle.base.proofs.Tests.{both-and, or-right}
-use Rattle.base.proofs.ListLaws.{by-test}
+use Rattle.base.proofs.ScanLaws.{cond-yes, cond-parts}
 use Rattle.dna.specs.Reference.{referenceSizeWrong}
 use Rattle.format.specs.Header.{headerOf, readCount}
 use Rattle.format.specs.Sections.{blockLength}
 use Rattle.format.specs.WellFormed.{BlockDivision}
+use Rattle.format.specs.Joined.{AllWellFormed}
 use Rattle.base.specs.Paste.{pasted}
 use Rattle.dna.specs.Counts.{zeroCounts}
 use Rattle.format.specs.Outcome.{Outcome, refusal, acceptedBlock}
@@ -24,6 +25,7 @@ use Rattle.format.specs.BlockAnswer.{
   BlockAnswer,
   accepts,
   refuses,
+  stage,
   blockAnswer,
   blockOutcome,
   validatedBlock,
@@ -46,7 +48,9 @@ use Rattle.format.specs.FileAnswer.{
   validated,
 }
 use Rattle.format.specs.EncodeAnswer.{EncodeInput, blockOf, encodeFaults, encodeNumber, encoded, encodedBuffer}
-use Rattle.format.specs.Demands.{upTo, writersOwn, Refusal}
+use Rattle.format.specs.Demands.{upTo, writersOwn, Refusal, FileRefusal}
+use Rattle.format.proofs.BlockLaws.{block-found, FirstBlock, first-block}
+use Rattle.format.proofs.JudgesFiles.Blocks.{block-some, bytes-drop}
 use Rattle.format.proofs.AnswerNumbers.{OwnRefusal, AnswerOwn, block-own, decode-own}
 
 -- The outcome of a refusal.
@@ -104,53 +108,130 @@ block-refuses bases reference input some =
 
 -- ---- Files
 
-abbrev FileOwn : (file : List ℕ) (answer : FileAnswer) → Type 0
-FileOwn file (acceptsFile divided) = Unit {0}
-FileOwn file (refusesFile number block read) = (place : ℕ) × OwnRefusal 21 (readCount (headerOf (drop place file))) number read
+absurd-refused {ℓ} : {X : Type ℓ} {number block read : ℕ} {ds : List BlockDivision} → acceptsFile ds ≡ refusesFile number block read → X
+absurd-refused e = let z : _≡_ {A = ℕ} 0 1 = cc in absurd (omega arith)
 
-after-own : (file : List ℕ) (n : ℕ) (divided : BlockDivision) (rest : FileAnswer) → FileOwn (drop n file) rest → FileOwn file (afterBlock divided rest)
-unfolding afterBlock
-after-own file n divided (acceptsFile more) o = tt
-after-own file n divided (refusesFile number block read) o =
-    (n + o .0, subst (λ (part : List ℕ). OwnRefusal 21 (readCount (headerOf part)) number read) (drop-drop (o .0) n file) (o .1))
+-- The blocks before a refused one, and the answer to what follows them.
+record Refused (bases : ℕ) (reference file : List ℕ) (number block read : ℕ) : Type 0 where
+  before : List (List ℕ)
+  rest : List ℕ
+  wellFormed : AllWellFormed bases before
+  begins : flatten before ++ rest ≡ file
+  index : block ≡ length before
+  answered : blockAnswer bases reference rest ≡ refuses number read
 
-on-own : (file : List ℕ) (n : ℕ) (answer : BlockAnswer) (rest : FileAnswer) → AnswerOwn 21 (readCount (headerOf file)) answer
-    → FileOwn (drop n file) rest → FileOwn file (onBlock answer rest)
-unfolding onBlock
-on-own file n (accepts divided) rest a o = after-own file n divided rest o
-on-own file n (refuses number read) rest a o = (0, a)
+-- A refused file: its first block is refused, or the rest of it is.
+on-refused {ℓ} : {X : Type ℓ} (answer : BlockAnswer) (rest : FileAnswer) {number block read : ℕ} → onBlock answer rest ≡ refusesFile number block read
+    → (answer ≡ refuses number read → block ≡ 0 → X)
+    → ((divided : BlockDivision) (m : ℕ) → answer ≡ accepts divided → rest ≡ refusesFile number m read → block ≡ suc m → X) → X
+unfolding onBlock afterBlock
+on-refused (accepts divided) (acceptsFile more) e here later = absurd-refused e
+on-refused (accepts divided) (refusesFile n b r) {number} {block} {read} e here later =
+    let same : (n ≡ number) × (suc b ≡ block) × (r ≡ read) = (cc, cc, cc) in
+    later divided b refl (ap₂ (λ x y. refusesFile x b y) (same .0) (same .2)) (sym (same .1))
+on-refused (refuses n r) rest {number} {block} {read} e here later =
+    let same : (n ≡ number) × (0 ≡ block) × (r ≡ read) = (cc, cc, cc) in
+    here (ap₂ refuses (same .0) (same .2)) (sym (same .1))
 
-blocks-own : (most bases : ℕ) (reference file : List ℕ) → FileOwn file (blocksAnswer most bases reference file)
-unfolding blocksAnswer
-blocks-own zero bases reference file = tt
-blocks-own (suc most) bases reference [] = tt
-blocks-own (suc most) bases reference (byte ∷ bytes) =
-    let file : List ℕ = byte ∷ bytes in
-    on-own file (blockLength (headerOf file)) (blockAnswer bases reference file) _ (block-own bases reference file)
-    (blocks-own most bases reference (drop (blockLength (headerOf file)) file))
+-- A block before what is joined.
+joined-on : (block front rest part tail file : List ℕ) → front ++ rest ≡ part → part ≡ tail → file ≡ block ++ tail
+    → block ++ front ++ rest ≡ file
+joined-on block front rest part tail file e f g =
+    append-assoc block front rest ∙ ap (λ (x : List ℕ). block ++ x) (e ∙ f) ∙ sym g
 
-file-own : (bases : ℕ) (reference file : List ℕ) → FileOwn file (fileAnswer bases reference file)
-unfolding fileAnswer
-file-own bases reference file =
-    let go : (t : Bool) → FileOwn file (cond t (refusesFile 1 0 0) (blocksAnswer (length file) bases reference file))
-    = λ t. elim t [
-      | true ↦ (0, record { least = omega arith; most = omega arith; index = λ z. absurd (omega arith) })
-      | false ↦ blocks-own (length file) bases reference file
-    ] in
-    go (referenceSizeWrong bases reference)
+blocks-refused : (most bases : ℕ) (reference file : List ℕ) (number block read : ℕ) → AllBytes file → length file ≤ most
+    → blocksAnswer most bases reference file ≡ refusesFile number block read → Refused bases reference file number block read
+unfolding blocksAnswer flatten
+blocks-refused zero bases reference [] number block read bytes h e = absurd-refused e
+blocks-refused zero bases reference (byte ∷ tail) number block read bytes h e = absurd (omega arith)
+blocks-refused (suc most) bases reference [] number block read bytes h e = absurd-refused e
+blocks-refused (suc most) bases reference (byte ∷ tail) number block read bytes h e =
+    let file : List ℕ = byte ∷ tail in
+    let n : ℕ = blockLength (headerOf file) in
+    let ih : (f : List ℕ) (b : ℕ) → AllBytes f → length f ≤ most → blocksAnswer most bases reference f ≡ refusesFile number b read
+    → Refused bases reference f number b read
+    = λ f b. blocks-refused most bases reference f number b read in
+    on-refused (blockAnswer bases reference file) (blocksAnswer most bases reference (drop n file)) e
+    (λ a z. record { before = []; rest = file; wellFormed = tt; begins = refl; index = z; answered = a })
+    (λ divided m e₁ e₂ is.
+    let first : FirstBlock bases file divided = first-block bases file divided bytes (block-found bases reference file divided bytes e₁) in
+    let some : 121 ≤ length (first .block) = block-some bases (first .block) (first .wellFormed) in
+    let rest : drop n file ≡ first .rest =
+    ap (drop n) (first .begins) ∙ drop-at (first .block) (first .rest) n (first .size) in
+    let size : length file ≡ length (first .block) + length (first .rest) =
+    ap length (first .begins) ∙ length-append (first .block) (first .rest) in
+    let r : Refused bases reference (drop n file) number m read =
+    ih (drop n file) m (bytes-drop n file bytes) (omega (arith, ap length rest)) e₂ in
+    record {
+      before = first .block ∷ r .before;
+      rest = r .rest;
+      wellFormed = (first .wellFormed, r .wellFormed);
+      begins =
+          joined-on (first .block) (flatten (r .before)) (r .rest) (drop n file) (first .rest) file (r .begins) rest (first .begins);
+      index = is ∙ ap suc (r .index);
+      answered = r .answered;
+    })
 
-outcome-file : (bases : ℕ) (reference file : List ℕ) (answer : FileAnswer) → FileOwn file answer → 0 < fileOutcome bases reference answer .number
-    → (place : ℕ) × Refusal (upTo 21) (readCount (headerOf (drop place file))) (fileOutcome bases reference answer)
+-- A reference that does not fit is refused before anything else.
+reference-refused : (bases : ℕ) (reference input : List ℕ) → referenceSizeWrong bases reference ≡ true → blockAnswer bases reference input ≡ refuses 1 0
+unfolding blockAnswer stage
+reference-refused bases reference input wrong = cond-yes _ wrong refl
+
+-- The outcome of a refusing answer.
+outcome-of : (bases : ℕ) (reference input : List ℕ) (number read : ℕ) → blockAnswer bases reference input ≡ refuses number read
+    → (validatedBlock bases reference input ≡ refusal number 0 read) × OwnRefusal 21 (readCount (headerOf input)) number read
+unfolding validatedBlock blockOutcome
+outcome-of bases reference input number read e = (
+  ap (blockOutcome bases reference input) e,
+  subst (λ (a : BlockAnswer). AnswerOwn 21 (readCount (headerOf input)) a) e (block-own bases reference input),
+)
+
+refused-file : (bases : ℕ) (reference file : List ℕ) (number block read : ℕ) → Refused bases reference file number block read
+    → FileRefusal bases reference file (refusal number block read)
+refused-file bases reference file number block read r =
+    let o = outcome-of bases reference (r .rest) number read (r .answered) in
+    record {
+      before = r .before;
+      rest = r .rest;
+      wellFormed = r .wellFormed;
+      begins = r .begins;
+      block-index = r .index;
+      refused = o .0;
+      nothing = own-refusal 21 (readCount (headerOf (r .rest))) number block read (o .1);
+    }
+
+-- A file's answer that refuses.
+answer-refused : (bases : ℕ) (reference file : List ℕ) (number block read : ℕ) → AllBytes file
+    → fileAnswer bases reference file ≡ refusesFile number block read → Refused bases reference file number block read
+unfolding fileAnswer flatten
+answer-refused bases reference file number block read bytes e =
+    cond-parts (referenceSizeWrong bases reference) _ _ e
+    (λ wrong is.
+    let same : (1 ≡ number) × (0 ≡ block) × (0 ≡ read) = (cc, cc, cc) in
+    record {
+      before = [];
+      rest = file;
+      wellFormed = tt;
+      begins = refl;
+      index = sym (same .1);
+      answered = reference-refused bases reference file wrong ∙ ap₂ refuses (same .0) (same .2);
+    })
+    (λ fits is. blocks-refused (length file) bases reference file number block read bytes (omega arith) is)
+
+outcome-file : (bases : ℕ) (reference file : List ℕ) (answer : FileAnswer)
+    → ((number block read : ℕ) → answer ≡ refusesFile number block read → Refused bases reference file number block read)
+    → 0 < fileOutcome bases reference answer .number → FileRefusal bases reference file (fileOutcome bases reference answer)
 unfolding fileOutcome
-outcome-file bases reference file (acceptsFile divided) o some = absurd (omega arith)
-outcome-file bases reference file (refusesFile number block read) o some =
-    (o .0, own-refusal 21 (readCount (headerOf (drop (o .0) file))) number block read (o .1))
+outcome-file bases reference file (acceptsFile divided) r some = absurd (omega arith)
+outcome-file bases reference file (refusesFile number block read) r some =
+    refused-file bases reference file number block read (r number block read refl)
 
-pub file-refuses : (bases : ℕ) (reference file : List ℕ) → 0 < validated bases reference file .number
-    → (place : ℕ) × Refusal (upTo 21) (readCount (headerOf (drop place file))) (validated bases reference file)
+pub file-refuses : (bases : ℕ) (reference file : List ℕ) → AllBytes file → 0 < validated bases reference file .number
+    → FileRefusal bases reference file (validated bases reference file)
 unfolding validated
-file-refuses bases reference file some =
-    outcome-file bases reference file (fileAnswer bases reference file) (file-own bases reference file) some
+file-refuses bases reference file bytes some =
+    outcome-file bases reference file (fileAnswer bases reference file)
+    (λ number block read. answer-refused bases reference file number block read bytes) some
 
 -- ---- Encoding
 
