@@ -1,11 +1,11 @@
 -- Laws of what stands at a place. Assumes nothing.
 use mathlib.Core.Path.{_≡_, refl, sym, ap, _∙_, subst}
 use Prim.Native.Nat.{ℕ, _+_, _-_, _≤_, _<_}
-use native.Mathlib.Nat.{not-suc-le-zero}
+use native.Mathlib.Nat.{not-suc-le-zero, zero-add}
 use native.Mathlib.Omega.{arith}
 use mathlib.Core.List.{List, [], _∷_, _++_}
-use lib.ListN.{length, getD, length-append, List·getD-append}
-use lib.Seq.{getD-append-add, ext-getD}
+use lib.ListN.{length, getD, take, length-append, List·getD-append}
+use lib.Seq.{getD-append-add, getD-take, length-take-le, ext-getD}
 use Rattle.base.specs.Place.{At}
 use Rattle.base.proofs.ListLaws.{by-order}
 
@@ -19,6 +19,17 @@ at-middle front part back =
 
 pub at-self : (list : List ℕ) → At list 0 list
 at-self list = record { fits = omega arith; same = λ k h. ap (λ (m : ℕ). getD list m 0) (omega arith) }
+
+-- The front of a list stands at its start.
+pub at-take : (list : List ℕ) (n : ℕ) → n ≤ length list → At list 0 (take n list)
+at-take list n h =
+    let size : length (take n list) ≡ n = length-take-le n list h in
+    record {
+      fits = omega arith;
+      same = λ k l.
+          let small : k < n = omega arith in
+          ap (λ (m : ℕ). getD list m 0) (zero-add k) ∙ sym (getD-take n list k 0 small);
+    }
 
 pub at-left : {list : List ℕ} {i : ℕ} (xs ys : List ℕ) → At list i (xs ++ ys) → At list i xs
 at-left xs ys a =

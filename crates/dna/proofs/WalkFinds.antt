@@ -4,14 +4,15 @@ use Prim.Native.Nat.{ℕ, zero, suc, _+_, _≤_, _<_}
 use native.Mathlib.Omega.{arith}
 use mathlib.Core.Bool.{Bool, true, false, not}
 use mathlib.Core.List.{List, [], _∷_, _++_, flatMap}
-use lib.ListN.{length, getD, drop, length-append}
+use lib.ListN.{length, getD, take, drop, length-append}
+use lib.Seq.{take-length, length-take-le}
 use lib.Dec.{ltb, eqb}
 use borrow.Author.Tests.{le-ltb, eq-eqb}
 use Rattle.base.specs.Lists.{any, All}
 use Rattle.base.specs.Groups.{inGroups}
 use Rattle.base.specs.Place.{At}
 use Rattle.base.proofs.ListLaws.{all-left, all-right}
-use Rattle.base.proofs.PlaceLaws.{at-self, at-left, at-right, at-head, at-tail, at-to}
+use Rattle.base.proofs.PlaceLaws.{at-take, at-left, at-right, at-head, at-tail, at-to}
 use Rattle.base.proofs.Tests.{neither-or, true-not}
 use Rattle.dna.specs.Record.{ReadContext, StoredRecord, recordBytes}
 use Rattle.dna.specs.Alignment.{positionAfter}
@@ -116,11 +117,18 @@ groups-walk bases read previous (ours ∷ lengths) (nByte ∷ nSection) (group �
     (all-right ReadMeets (readsFrom bases previous here) _ both) (at-right (groupBytes group) rest a))
     (ap (walked (group ∷ division)) (omega (arith, length-append (groupBytes group) rest))))
 
+-- A division of the front of a section is what the walk finds, to that front's end.
+pub front-walk : (bases : ℕ) (lengths nSection dna : List ℕ) (division : Division) (end : ℕ) → end ≤ length dna
+    → Divides bases lengths nSection (take end dna) division → sectionWalk bases lengths nSection dna ≡ walked division end
+unfolding sectionWalk readsOf
+front-walk bases lengths nSection dna division end inside d =
+    groups-walk bases 0 0 (inGroups lengths) nSection division (d .groups) (d .records)
+    (subst (λ (bytes : List ℕ). At dna 0 bytes) (sym (d .bytes)) (at-take dna end inside))
+    ∙ ap (walked division) (omega (arith, ap length (d .bytes), length-take-le end dna inside))
+
 -- A division that meets the rules is what the walk finds, to the section's end.
 pub divides-walk : (bases : ℕ) (lengths nSection dna : List ℕ) (division : Division) → Divides bases lengths nSection dna division
     → sectionWalk bases lengths nSection dna ≡ walked division (length dna)
-unfolding sectionWalk readsOf
 divides-walk bases lengths nSection dna division d =
-    groups-walk bases 0 0 (inGroups lengths) nSection division (d .groups) (d .records)
-    (subst (λ (whole : List ℕ). At whole 0 (divisionBytes division)) (d .bytes) (at-self (divisionBytes division)))
-    ∙ ap (walked division) (omega (arith, ap length (d .bytes)))
+    front-walk bases lengths nSection dna division (length dna) (omega arith)
+    (subst (λ (front : List ℕ). Divides bases lengths nSection front division) (sym (take-length dna)) d)

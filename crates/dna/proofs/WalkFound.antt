@@ -4,7 +4,8 @@ use Prim.Native.Nat.{ℕ, zero, suc, _+_, _≤_, _<_}
 use native.Mathlib.Omega.{arith}
 use mathlib.Core.Bool.{Bool, true, false, not, _||_}
 use mathlib.Core.List.{List, [], _∷_, _++_, flatMap}
-use lib.ListN.{length, getD, drop, length-append}
+use lib.ListN.{length, getD, take, drop, length-append}
+use lib.Seq.{take-all, length-take-le}
 use lib.Dec.{ltb, eqb}
 use borrow.Author.Tests.{ltb-false, eqb-true}
 use Rattle.base.specs.Lists.{any, All, AllBytes}
@@ -12,7 +13,7 @@ use Rattle.base.specs.Groups.{groupCount, inGroups}
 use Rattle.base.specs.Place.{At}
 use Rattle.base.proofs.ListLaws.{all-append}
 use Rattle.base.proofs.GroupLaws.{length-inGroups}
-use Rattle.base.proofs.PlaceLaws.{at-self, at-same, at-both, at-cons, at-nil, at-to}
+use Rattle.base.proofs.PlaceLaws.{at-take, at-same, at-both, at-cons, at-nil, at-to}
 use Rattle.base.proofs.Tests.{or-neither, not-false}
 use Rattle.dna.specs.Record.{ReadContext, StoredRecord, recordBytes}
 use Rattle.dna.specs.Alignment.{positionAfter}
@@ -155,16 +156,34 @@ groups-found bases read previous (ours ∷ lengths) (nByte ∷ nSection) {list} 
       ends = omega (arith, same .1, more .ends, f .ends, length-append (groupBytes group) (divisionBytes gs));
     })))
 
+-- What the walk found divides the front of the section that it went over.
+pub record FrontFound (bases : ℕ) (lengths nSection dna : List ℕ) (division : Division) (end : ℕ) : Type 0 where
+  pub inside : end ≤ length dna
+  pub divides : Divides bases lengths nSection (take end dna) division
+
+pub walk-front : (bases : ℕ) (lengths nSection dna : List ℕ) (division : Division) (end : ℕ) → AllBytes dna
+    → length nSection ≡ groupCount (length lengths) → sectionWalk bases lengths nSection dna ≡ walked division end
+    → FrontFound bases lengths nSection dna division end
+unfolding sectionWalk readsOf
+walk-front bases lengths nSection dna division end bytes n e =
+    let f : GroupsFound bases 0 (inGroups lengths) nSection dna 0 division end
+    = groups-found bases 0 0 (inGroups lengths) nSection 0 bytes (n ∙ sym (length-inGroups lengths)) (omega arith) e in
+    let inside : end ≤ length dna = omega (arith, f .ends, f .stands .fits) in
+    record {
+      inside = inside;
+      divides = record {
+        bytes =
+            at-same (divisionBytes division) (take end dna) (omega (arith, f .ends, length-take-le end dna inside)) (f .stands)
+            (at-take dna end inside);
+        groups = f .meet;
+        records = f .reads;
+      };
+    }
+
 -- A walk that leaves no byte of the section over found a division that meets the rules.
 pub walk-divides : (bases : ℕ) (lengths nSection dna : List ℕ) (division : Division) (end : ℕ) → AllBytes dna
     → length nSection ≡ groupCount (length lengths) → sectionWalk bases lengths nSection dna ≡ walked division end → length dna ≤ end
     → Divides bases lengths nSection dna division
-unfolding sectionWalk readsOf
 walk-divides bases lengths nSection dna division end bytes n e left =
-    let f : GroupsFound bases 0 (inGroups lengths) nSection dna 0 division end
-    = groups-found bases 0 0 (inGroups lengths) nSection 0 bytes (n ∙ sym (length-inGroups lengths)) (omega arith) e in
-    record {
-      bytes = at-same (divisionBytes division) dna (omega (arith, f .ends, f .stands .fits)) (f .stands) (at-self dna);
-      groups = f .meet;
-      records = f .reads;
-    }
+    let f : FrontFound bases lengths nSection dna division end = walk-front bases lengths nSection dna division end bytes n e in
+    subst (λ (front : List ℕ). Divides bases lengths nSection front division) (take-all end dna left) (f .divides)

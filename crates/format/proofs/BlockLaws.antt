@@ -278,9 +278,20 @@ below-part {bound} list from count h =
           (h .each (from + k) (omega (arith, length-drop from list)));
     }
 
-section-bytes : (input : List ℕ) (number : ℕ) → AllBytes input → AllBytes (sectionOf input number)
+pub section-bytes : (input : List ℕ) (number : ℕ) → AllBytes input → AllBytes (sectionOf input number)
 unfolding sectionOf
 section-bytes input number bytes = below-part input (sectionStart (headerOf input) number) (sectionLength (headerOf input) number) bytes
+
+-- The N section has a byte for each group of the lengths, where 11 does not fit.
+pub groups-counted : (input lengths : List ℕ) → LengthsAre input lengths → NoneFits (lengthFaults input lengths)
+    → length (sectionOf input nNumber) ≡ groupCount (length lengths)
+unfolding lengthFaults nSectionWrong any
+groups-counted input lengths are none =
+    let size = or-neither (nSectionWrong input) _ (or-neither (dnaSizeWrong input lengths) _ none .1) in
+    let many : length lengths ≡ readCount (headerOf input) =
+    lengths-count (flagSet (headerOf input .flags) sameLengthFlag) (headerOf input) (sectionOf input sizeNumber) lengths are in
+    eqb-true _ _ (not-false (eqb (length (sectionOf input nNumber)) (groupCount (readCount (headerOf input)))) (size .0))
+    ∙ ap groupCount (sym many)
 
 -- What an accepted input begins with.
 pub record Accepted (bases : ℕ) (input : List ℕ) (divided : BlockDivision) : Type 0 where
@@ -297,11 +308,7 @@ block-found bases reference input divided bytes e =
     lengthsStage-parts (lengthsAnswer input) _ (first .1) (λ lengths next e₁ e₂.
     let second = stage-accepts (lengthFaults input lengths) _ e₂ in
     let are : LengthsAre input lengths = lengths-found input lengths next (section-bytes input sizeNumber bytes) e₁ in
-    let size = or-neither (nSectionWrong input) _ (or-neither (dnaSizeWrong input lengths) _ (second .0) .1) in
-    let many : length lengths ≡ readCount (headerOf input) = lengths-count (flagSet (headerOf input .flags) sameLengthFlag) (headerOf input) (sectionOf input sizeNumber) lengths are in
-    let groups : length (sectionOf input nNumber) ≡ groupCount (length lengths) =
-    eqb-true _ _ (not-false (eqb (length (sectionOf input nNumber)) (groupCount (readCount (headerOf input)))) (size .0))
-    ∙ ap groupCount (sym many) in
+    let groups = groups-counted input lengths are (second .0) in
     dnaStage-parts (length (sectionOf input dnaNumber)) (sectionWalk bases lengths (sectionOf input nNumber) (sectionOf input dnaNumber)) _ (second .1)
     (λ division end e₃ left e₄.
     let is : record { lengths = lengths; division = division } ≡ divided = accepts-same e₄ in

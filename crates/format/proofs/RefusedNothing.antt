@@ -1,13 +1,16 @@
 -- Demand 1 over the answers: a refused call changes nothing and counts nothing. Assumes nothing.
 mod Calls
+mod Given
 use mathlib.Core.Path.{_≡_, refl}
 use Prim.Native.Nat.{ℕ}
 use mathlib.Core.List.{List}
 use Rattle.format.specs.Demands.{Demand1}
 use Calls.{decode-refuses, block-refuses, file-refuses, encode-refuses}
+use Given.{given-exactly}
 
 -- Whatever a call is given, if its number is not 0 then the number is one of its own, every count is 0, the read
--- index is 0 or a read's, and every lent buffer holds what it held before.
+-- index is 0 or a read's, and every lent buffer holds what it held before; and outside the DNA section each number is
+-- given exactly when the definitions say.
 pub demand-1 : Demand1
 demand-1 =
     record {
@@ -15,4 +18,5 @@ demand-1 =
       validateBlock = block-refuses;
       validate = file-refuses;
       encode = encode-refuses;
+      given = given-exactly;
     }

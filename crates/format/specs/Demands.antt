@@ -11,16 +11,20 @@ use mathlib.Core.Path.{_≡_}
 use mathlib.Core.Logic.{_↔_}
 use mathlib.Core.Bool.{Bool, true, false, _&&_, _||_}
 use mathlib.Core.List.{List, _++_, map, flatten}
-use lib.ListN.{length}
+use lib.ListN.{length, take}
 use lib.Dec.{leb, eqb}
+use Rattle.base.specs.Faults.{NoneFits}
+use Rattle.base.specs.Scan.{firstNumber}
 use Rattle.base.specs.Paste.{pasted}
 use Rattle.base.specs.Lists.{member, total, placesFrom, All, Begins, Below, AllBytes}
-use Rattle.dna.specs.Reference.{alphabet, ReferenceFits}
+use Rattle.dna.specs.Reference.{alphabet, referenceSizeWrong, ReferenceFits}
 use Rattle.dna.specs.Sizes.{lengthInvalid}
 use Rattle.dna.specs.Counts.{Counted, zeroCounts, sumCounts, recordCounts}
-use Rattle.dna.specs.Division.{SameDivision, divisionBytes, readEnds}
+use Rattle.dna.specs.Division.{Division, SameDivision, Divides, divisionBytes, readEnds}
 use Rattle.format.specs.Header.{headerOf, readCount}
-use Rattle.format.specs.HeaderFaults.{maxReads}
+use Rattle.format.specs.Sections.{dnaNumber, nNumber, sectionOf}
+use Rattle.format.specs.HeaderFaults.{maxReads, headerFaults}
+use Rattle.format.specs.Lengths.{LengthsAre, LengthsInvalid, lengthFaults}
 use Rattle.format.specs.WellFormed.{BlockDivision, DividesBlock, WellFormed}
 use Rattle.format.specs.Joined.{
   Joined,
@@ -34,6 +38,8 @@ use Rattle.format.specs.Joined.{
 }
 use Rattle.format.specs.Outcome.{Outcome, refusal, acceptedBlock, acceptedFile, modulo64}
 use Rattle.format.specs.BlockAnswer.{
+  accepts,
+  blockAnswer,
   validatedBlock,
   decoded,
   decodedLetters,
@@ -81,6 +87,37 @@ pub record FileRefusal (bases : ℕ) (reference file : List ℕ) (outcome : Outc
   pub refused : validatedBlock bases reference rest ≡ refusal (outcome .number) 0 (outcome .read)
   pub nothing : Refusal (upTo 21) (readCount (headerOf rest)) outcome
 
+-- The lent buffers have room for the letters and ends of a division.
+pub record Room (reference : List ℕ) (bases letterRoom endRoom : ℕ) (divided : BlockDivision) : Type 0 where
+  pub letters : length (flatten (blockReads reference bases divided)) ≤ letterRoom
+  pub ends : length (divided .lengths) ≤ endRoom
+
+-- When each number outside the DNA section is given, in the definitions' own terms (01: given exactly when).
+pub record GivenExactly (bases : ℕ) (reference input : List ℕ) : Type 0 where
+  -- 1: the reference, before anything else.
+  pub of-reference : referenceSizeWrong bases reference ≡ true → validatedBlock bases reference input ≡ refusal 1 0 0
+  -- 2 to 8: the first fault of the header.
+  pub of-header : referenceSizeWrong bases reference ≡ false → 0 < firstNumber (headerFaults input)
+      → validatedBlock bases reference input ≡ refusal (firstNumber (headerFaults input)) 0 0
+  -- 9: no list is the lengths of the block's reads.
+  pub of-lengths : ReferenceFits bases reference → NoneFits (headerFaults input)
+      → (validatedBlock bases reference input ≡ refusal 9 0 0) ↔ LengthsInvalid input
+  -- 10, 11 by length: the first of the two that fits.
+  pub of-sizes : (lengths : List ℕ) → ReferenceFits bases reference → NoneFits (headerFaults input) → LengthsAre input lengths
+      → 0 < firstNumber (lengthFaults input lengths)
+      → validatedBlock bases reference input ≡ refusal (firstNumber (lengthFaults input lengths)) 0 0
+  -- 21: a front of the DNA section, and not all of it, has a division that meets the rules.
+  pub of-left-over : (lengths : List ℕ) → ReferenceFits bases reference → NoneFits (headerFaults input) → LengthsAre input lengths
+      → NoneFits (lengthFaults input lengths)
+      → (validatedBlock bases reference input ≡ refusal 21 0 0)
+      ↔ ((division : Division) × (size : ℕ) × (size < length (sectionOf input dnaNumber))
+      × Divides bases lengths (sectionOf input nNumber) (take size (sectionOf input dnaNumber)) division)
+  -- 22: the block is accepted by judging, but there is no room. Otherwise decoding answers as judging does.
+  pub of-room : (letters ends : List ℕ) (divided : BlockDivision) → blockAnswer bases reference input ≡ accepts divided
+      → (Room reference bases (length letters) (length ends) divided → ⊥) → decoded bases reference input letters ends ≡ refusal 22 0 0
+  pub of-decoding : (letters ends : List ℕ) → 0 < validatedBlock bases reference input .number
+      → decoded bases reference input letters ends ≡ validatedBlock bases reference input
+
 -- Demand 1.
 pub record Demand1 : Type 0 where
   -- Decoding: both lent buffers hold what they held before.
@@ -104,13 +141,10 @@ pub record Demand1 : Type 0 where
       → Refusal writersOwn 0 (encoded bases reference input out)
       × (encoded bases reference input out .block ≡ 0)
       × (encodedBuffer bases reference input out ≡ out)
+  -- Each number is given exactly when 01 says.
+  pub given : (bases : ℕ) (reference input : List ℕ) → AllBytes input → GivenExactly bases reference input
 
 -- ---- Demand 2, reading: a well-formed block gives exactly what is defined, and no other is accepted
-
--- The lent buffers have room for the letters and ends of a division.
-pub record Room (reference : List ℕ) (bases letterRoom endRoom : ℕ) (divided : BlockDivision) : Type 0 where
-  pub letters : length (flatten (blockReads reference bases divided)) ≤ letterRoom
-  pub ends : length (divided .lengths) ≤ endRoom
 
 -- The input begins with a well-formed block, and there is room for it.
 pub record Readable (bases : ℕ) (reference input : List ℕ) (letterRoom endRoom : ℕ) : Type 0 where
