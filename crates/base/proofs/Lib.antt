@@ -9,3 +9,6 @@ pub mod BitLaws
 pub mod PasteLaws
 pub mod PaddingLaws
 pub mod PackedPasteLaws
+pub mod SignedLaws
+pub mod FaultLaws
+pub mod SumLaws
