@@ -7,9 +7,9 @@ use mathlib.Core.List.{List}
 use lib.ListN.{length, getD, take, drop, List·getD-eq-default}
 use lib.Seq.{take-all}
 use lib.IntN.{ℤ, pos, negsuc}
-use lib.Signed.{ltZ}
+use lib.Signed.{ltZ, leZ}
 use lib.Dec.{ltb}
-use borrow.Author.Tests.{lt-ltb, le-ltb, ltb-false}
+use borrow.Author.Tests.{lt-ltb, le-ltb, le-leb, eq-eqb, ne-eqb, ltb-false}
 use Rattle.base.specs.Lists.{build, total}
 use Rattle.base.specs.Numbers.{le, nonNegative}
 use Rattle.base.specs.Faults.{Fault, fault}
@@ -33,19 +33,20 @@ use Rattle.format.specs.HeaderFaults.{
   sectionsTruncated,
   headerFaults,
 }
-use Rattle.format.specs.BlockAnswer.{headerRefused, sectionAnswer}
+use Rattle.format.specs.BlockAnswer.{headerRefused, sectionAnswer, spanAnswer}
 
 -- ---- Signed numbers against a bound
 
-pub signedBelow-negative : (bound : ℕ) (z : ℤ) → ltZ z (pos 0) ≡ true → signedBelow bound z ≡ true
+pub signedBelow-negative : (bound : ℕ) (z : ℤ) → leZ (pos 0) z ≡ false → signedBelow bound z ≡ true
 unfolding signedBelow
-signedBelow-negative bound (pos n) e = absurd-test (sym e ∙ le-ltb n 0 (omega arith))
+signedBelow-negative bound (pos n) e = absurd-test (sym (le-leb 0 n (omega arith)) ∙ e)
 signedBelow-negative bound (negsuc n) e = refl
 
-pub signedBelow-count : (bound : ℕ) (z : ℤ) → ltZ z (pos 0) ≡ false → signedBelow bound z ≡ ltb (nonNegative z) bound
+pub signedBelow-count : (bound : ℕ) (z : ℤ) → leZ (pos 0) z ≡ true
+    → signedBelow bound z ≡ ltb (nonNegative z) bound
 unfolding signedBelow nonNegative
 signedBelow-count bound (pos n) e = refl
-signedBelow-count bound (negsuc n) e = absurd-test e
+signedBelow-count bound (negsuc n) e = absurd-test (sym e)
 
 pub signedOutside-negative : (bound : ℕ) (z : ℤ) → ltZ z (pos 0) ≡ true → signedOutside bound z ≡ true
 unfolding signedOutside
@@ -139,3 +140,23 @@ module _ (input : List ℕ) (number index start size : ℕ) (accepted : headerRe
       simp accepted
       (ap₂ (λ (n from : ℕ). take n (drop from input)) (e ∙ sized ∙ ap (sectionLength (headerOf input)) same)
       (starts ∙ ap (sectionStart (headerOf input)) same))
+
+  -- Where it stands, if it has a byte.
+  pub span-found : (size ≡ 0 → ⊥) → record { offset = start; size = size } ≡ spanAnswer input number
+  unfolding spanAnswer
+  span-found some =
+      let there : start ≡ sectionStart (headerOf input) number =
+      starts ∙ ap (sectionStart (headerOf input)) same in
+      let long : size ≡ sectionLength (headerOf input) number =
+      sized ∙ ap (sectionLength (headerOf input)) same in
+      rw (← there, ← long) (simp (accepted, ne-eqb size 0 some))
+
+-- An empty section stands nowhere.
+pub span-empty : (input : List ℕ) (number index size : ℕ) → headerRefused input ≡ false
+    → index ≡ number → size ≡ sectionLength (headerOf input) index → size ≡ 0
+    → record { offset = 0; size = 0 } ≡ spanAnswer input number
+unfolding spanAnswer
+span-empty input number index size accepted same sized none =
+    let long : size ≡ sectionLength (headerOf input) number =
+    sized ∙ ap (sectionLength (headerOf input)) same in
+    rw (← long) (simp (accepted, eq-eqb size 0 none))

@@ -1,5 +1,6 @@
--- The faults of a table of contents that is there, 3 to 8, with the flag test of 6 left open: another kind of block
--- asks another. With flagUnsupported, and 2 before them, they are format's headerFaults.
+-- The faults of a table of contents that is there, 3 to 8, with the flag test of 6 left open:
+-- another kind of block asks another. With flagUnsupported, and 2 before them, they are the
+-- headerFaults of format.
 use mathlib.Core.Bool.{Bool}
 use mathlib.Core.List.{List, [], _∷_}
 use Prim.Native.Nat.{ℕ}

@@ -1,5 +1,5 @@
-// The faults 2 to 8 of a header (01, Numbers of refusal). Each is a test that can be asked alone; all but the first
-// need the table to be there.
+// The faults 2 to 8 of a header (01, Numbers of refusal). Each is a test that can be asked alone;
+// all but the first need the table to be there.
 use crate::fields::TABLE_LENGTH;
 use crate::fields::flags;
 use crate::fields::l_header;
@@ -75,7 +75,8 @@ pub fn header_fault(input: &[u8]) -> u8
     table_fault(input, flag_unsupported(input))
 }
 
-// The first of 3 to 8 that a table of contents earns, or 0; `unsupported` says whether its flags earn 6.
+// The first of 3 to 8 that a table of contents earns, or 0; `unsupported` says whether its flags
+// earn 6.
 pub fn table_fault(input: &[u8], unsupported: bool) -> u8
     requires { ⌜ tableLength ≤ length (now input) ⌝ }
     ensures { λ r. ⌜ r ≡ firstNumber (tableFaults (now (input .entry)) unsupported) ⌝ }
@@ -169,10 +170,10 @@ pub fn sections_truncated(input: &[u8]) -> bool
 fn is_below(bound: usize, number: i32) -> bool
     ensures { λ r. ⌜ r ≡ signedBelow bound number ⌝ }
 {
-    if number < 0 {
-        return true;
+    if 0 <= number {
+        return non_negative(number) < bound;
     }
-    non_negative(number) < bound
+    true
 }
 
 // Outside 0 to a bound; so is every negative number.

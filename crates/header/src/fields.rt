@@ -1,4 +1,5 @@
-// The fields of a table of contents, each at its offset. Every `requires` says that the table is there.
+// The fields of a table of contents, each at its offset. Every `requires` says that the table is
+// there.
 use integers::i32_at;
 use integers::u16_at;
 use integers::u32_at;

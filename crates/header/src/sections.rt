@@ -1,5 +1,5 @@
-// Where the nine sections stand, 0 to 8 (01: bodies). The sums are exact: a length is below 2 ^ 32 and l_header
-// below 2 ^ 31.
+// Where the nine sections stand, 0 to 8 (01: bodies). The sums are exact: a length is below 2 ^ 32
+// and l_header below 2 ^ 31.
 use crate::faults::header_fault;
 use crate::fields::header_length;
 use integers::size32;
@@ -21,8 +21,8 @@ ghost use Rattle.format.specs.BlockAnswer.{sectionAnswer};
 // How many sections a block has.
 pub const SECTIONS: usize = 9;
 
-// The section that is asked for, the very part of the block; empty if the number is above 8 or the header earns 2
-// to 8.
+// The section that is asked for, the very part of the block; empty if the number is above 8 or the
+// header earns 2 to 8.
 pub fn section(input: &[u8], number: u64) -> &[u8]
     ensures { λ r. ⌜ now r ≡ sectionAnswer (now (input .entry)) number ⌝ }
 {

@@ -22,7 +22,8 @@ flag-set-requires-2 c κs = search needs
 returns-2 : tie.Need-returns-2
 unfolding flagUnsupported
 returns-2 c =
-    rw (← c .before .before .before .flags .ensures) (simp (sym (c .before .before .flag-set .ensures) ∙ c .before .if1 .left) (c .flag-set2 .ensures))
+    rw (← c .before .before .before .flags .ensures)
+    (simp (sym (c .before .before .flag-set .ensures) ∙ c .before .if1 .left) (c .flag-set2 .ensures))
 
 pub flag-unsupported-spec : {M : Type 1} → statement M
 flag-unsupported-spec =

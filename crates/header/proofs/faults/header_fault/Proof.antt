@@ -31,8 +31,10 @@ table-fault-requires c κs =
 returns-2 : tie.Need-returns-2
 unfolding firstNumber headerFaults tableFaults
 returns-2 c =
+    let input = c .before .before .before .before .before .args .input .now in
     simp (sym (c .before .before .before .header-truncated .ensures) ∙ c .before .before .if1 .left)
-    (c .table-fault .ensures ∙ ap (λ (t : Bool). firstNumber (tableFaults (c .before .before .before .before .before .args .input .now) t)) (c .before .flag-unsupported .ensures))
+    (c .table-fault .ensures
+    ∙ ap (λ (t : Bool). firstNumber (tableFaults input t)) (c .before .flag-unsupported .ensures))
 
 pub header-fault-spec : {M : Type 1} → statement M
 header-fault-spec =

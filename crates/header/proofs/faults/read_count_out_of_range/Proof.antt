@@ -16,7 +16,8 @@ returns : tie.Need-returns
 unfolding readCountOutOfRange
 returns c =
     let field = c .before .n-reads in
-    c .is-outside .ensures ∙ ap (signedOutside 50000) (carried (field .result) _ (field .ok) (field .ensures))
+    c .is-outside .ensures
+    ∙ ap (signedOutside 50000) (carried (field .result) _ (field .ok) (field .ensures))
 
 pub read-count-out-of-range-spec : {M : Type 1} → statement M
 read-count-out-of-range-spec = tie.close (tie.spec n-reads-requires is-outside-requires returns)

@@ -21,8 +21,9 @@ version-unsupported-requires c κs = search needs
 returns-2 : tie.Need-returns-2
 unfolding firstNumber tableFaults
 returns-2 c =
+    let p1 = c .before .before in
     simp (
-      sym (c .before .before .before .magic-wrong .ensures) ∙ c .before .before .if1 .left,
+      sym (p1 .before .magic-wrong .ensures) ∙ p1 .if1 .left,
       sym (c .before .version-unsupported .ensures) ∙ c .if2 .taken,
     )
 
@@ -32,19 +33,24 @@ header-length-too-small-requires c κs = search needs
 returns-3 : tie.Need-returns-3
 unfolding firstNumber tableFaults
 returns-3 c =
+    let p2 = c .before .before in
+    let p1 = p2 .before .before in
     simp (
-      sym (c .before .before .before .before .before .magic-wrong .ensures) ∙ c .before .before .before .before .if1 .left,
-      sym (c .before .before .before .version-unsupported .ensures) ∙ c .before .before .if2 .left,
+      sym (p1 .before .magic-wrong .ensures) ∙ p1 .if1 .left,
+      sym (p2 .before .version-unsupported .ensures) ∙ p2 .if2 .left,
       sym (c .before .header-length-too-small .ensures) ∙ c .if3 .taken,
     )
 
 returns-4 : tie.Need-returns-4
 unfolding firstNumber tableFaults
 returns-4 c =
+    let p3 = c .before in
+    let p2 = p3 .before .before in
+    let p1 = p2 .before .before in
     simp (
-      sym (c .before .before .before .before .before .before .magic-wrong .ensures) ∙ c .before .before .before .before .before .if1 .left,
-      sym (c .before .before .before .before .version-unsupported .ensures) ∙ c .before .before .before .if2 .left,
-      sym (c .before .before .header-length-too-small .ensures) ∙ c .before .if3 .left,
+      sym (p1 .before .magic-wrong .ensures) ∙ p1 .if1 .left,
+      sym (p2 .before .version-unsupported .ensures) ∙ p2 .if2 .left,
+      sym (p3 .before .header-length-too-small .ensures) ∙ p3 .if3 .left,
       c .if4 .taken,
     )
 
@@ -54,11 +60,15 @@ read-count-out-of-range-requires c κs = search needs
 returns-5 : tie.Need-returns-5
 unfolding firstNumber tableFaults
 returns-5 c =
+    let p4 = c .before .before in
+    let p3 = p4 .before in
+    let p2 = p3 .before .before in
+    let p1 = p2 .before .before in
     simp (
-      sym (c .before .before .before .before .before .before .before .before .magic-wrong .ensures) ∙ c .before .before .before .before .before .before .before .if1 .left,
-      sym (c .before .before .before .before .before .before .version-unsupported .ensures) ∙ c .before .before .before .before .before .if2 .left,
-      sym (c .before .before .before .before .header-length-too-small .ensures) ∙ c .before .before .before .if3 .left,
-      c .before .before .if4 .left,
+      sym (p1 .before .magic-wrong .ensures) ∙ p1 .if1 .left,
+      sym (p2 .before .version-unsupported .ensures) ∙ p2 .if2 .left,
+      sym (p3 .before .header-length-too-small .ensures) ∙ p3 .if3 .left,
+      p4 .if4 .left,
       sym (c .before .read-count-out-of-range .ensures) ∙ c .if5 .taken,
     )
 
@@ -68,24 +78,34 @@ sections-truncated-requires c κs = search needs
 returns-6 : tie.Need-returns-6
 unfolding firstNumber tableFaults
 returns-6 c =
+    let p5 = c .before .before in
+    let p4 = p5 .before .before in
+    let p3 = p4 .before in
+    let p2 = p3 .before .before in
+    let p1 = p2 .before .before in
     simp (
-      sym (c .before .before .before .before .before .before .before .before .before .before .magic-wrong .ensures) ∙ c .before .before .before .before .before .before .before .before .before .if1 .left,
-      sym (c .before .before .before .before .before .before .before .before .version-unsupported .ensures) ∙ c .before .before .before .before .before .before .before .if2 .left,
-      sym (c .before .before .before .before .before .before .header-length-too-small .ensures) ∙ c .before .before .before .before .before .if3 .left,
-      c .before .before .before .before .if4 .left,
-      sym (c .before .before .before .read-count-out-of-range .ensures) ∙ c .before .before .if5 .left,
+      sym (p1 .before .magic-wrong .ensures) ∙ p1 .if1 .left,
+      sym (p2 .before .version-unsupported .ensures) ∙ p2 .if2 .left,
+      sym (p3 .before .header-length-too-small .ensures) ∙ p3 .if3 .left,
+      p4 .if4 .left,
+      sym (p5 .before .read-count-out-of-range .ensures) ∙ p5 .if5 .left,
       sym (c .before .sections-truncated .ensures) ∙ c .if6 .taken,
     )
 
 returns-7 : tie.Need-returns-7
 unfolding firstNumber tableFaults
 returns-7 c =
+    let p5 = c .before .before in
+    let p4 = p5 .before .before in
+    let p3 = p4 .before in
+    let p2 = p3 .before .before in
+    let p1 = p2 .before .before in
     simp (
-      sym (c .before .before .before .before .before .before .before .before .before .before .magic-wrong .ensures) ∙ c .before .before .before .before .before .before .before .before .before .if1 .left,
-      sym (c .before .before .before .before .before .before .before .before .version-unsupported .ensures) ∙ c .before .before .before .before .before .before .before .if2 .left,
-      sym (c .before .before .before .before .before .before .header-length-too-small .ensures) ∙ c .before .before .before .before .before .if3 .left,
-      c .before .before .before .before .if4 .left,
-      sym (c .before .before .before .read-count-out-of-range .ensures) ∙ c .before .before .if5 .left,
+      sym (p1 .before .magic-wrong .ensures) ∙ p1 .if1 .left,
+      sym (p2 .before .version-unsupported .ensures) ∙ p2 .if2 .left,
+      sym (p3 .before .header-length-too-small .ensures) ∙ p3 .if3 .left,
+      p4 .if4 .left,
+      sym (p5 .before .read-count-out-of-range .ensures) ∙ p5 .if5 .left,
       sym (c .before .sections-truncated .ensures) ∙ c .if6 .left,
     )
 

@@ -46,16 +46,19 @@ loop-again : tie.Need-loop-again Inv-loop μ-loop
 unfolding sectionLength
 loop-again c =
     let l = c .before .before .loop in
-    let lengths = sectionLengths (headerOf (c .before .before .before .before .args .input .now)) in
-    let size : c .section-length .result ≡ sectionLength (headerOf (c .before .before .before .before .args .input .now)) (l .k) = c .section-length .ensures .0 in
-    let e = total-take-suc lengths (l .k) in
+    let header = headerOf (c .before .before .before .before .args .input .now) in
+    let size : c .section-length .result ≡ sectionLength header (l .k) = c .section-length .ensures .0 in
+    let e = total-take-suc (sectionLengths header) (l .k) in
     (omega arith, rw add-one (omega arith), omega arith)
 
 returns : tie.Need-returns Inv-loop μ-loop
 returns c =
     let l = c .before .loop in
-    let e : l .k ≡ c .before .before .before .args .number = omega arith in
-    (l .inv .1 ∙ ap (λ (k : ℕ). total (take k (sectionLengths (headerOf (c .before .before .before .args .input .now))))) e, omega arith)
+    let a = c .before .before .before .args in
+    let e : l .k ≡ a .number = omega arith in (
+      l .inv .1 ∙ ap (λ (k : ℕ). total (take k (sectionLengths (headerOf (a .input .now))))) e,
+      omega arith,
+    )
 
 pub lengths-before-spec : {M : Type 1} → statement M
 lengths-before-spec =

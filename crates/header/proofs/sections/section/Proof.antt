@@ -26,7 +26,8 @@ section-start-requires c κs =
 
 section-length-requires : tie.Need-section-length-requires
 section-length-requires c κs =
-    accepted-table _ (accepted-number _ _ (c .before .before .before .header-fault .ensures) (c .before .before .if1 .left))
+    let b = c .before .before in
+    accepted-table _ (accepted-number _ _ (b .before .header-fault .ensures) (b .if1 .left))
 
 add-result : tie.Need-add-result
 add-result c = search needs
@@ -39,15 +40,19 @@ part-result-start c = search needs
 
 part-result-end : tie.Need-part-result-end
 part-result-end c =
-    let accepted = accepted-number _ _ (c .before .before .before .before .header-fault .ensures) (c .before .before .before .if1 .left) in
-    let fits = part-fits (c .before .before .before .before .before .before .args .input .now) (c .before .before .before .before .before .before .args .number) _ _ _ accepted (c .before .before .size64 .ensures .0)
+    let b = c .before .before .before in
+    let a = b .before .before .before .args in
+    let accepted = accepted-number _ _ (b .before .header-fault .ensures) (b .if1 .left) in
+    let fits = part-fits (a .input .now) (a .number) _ _ _ accepted (c .before .before .size64 .ensures .0)
     (c .before .section-start .ensures .0) (c .section-length .ensures .0) in
     search needs
 
 returns-2 : tie.Need-returns-2
 returns-2 c =
-    let accepted = accepted-number _ _ (c .before .before .before .before .before .header-fault .ensures) (c .before .before .before .before .if1 .left) in
-    part-answer (c .before .before .before .before .before .before .before .args .input .now) (c .before .before .before .before .before .before .before .args .number) _ _ _ accepted (c .before .before .before .size64 .ensures .0)
+    let b = c .before .before .before .before in
+    let a = b .before .before .before .args in
+    let accepted = accepted-number _ _ (b .before .header-fault .ensures) (b .if1 .left) in
+    part-answer (a .input .now) (a .number) _ _ _ accepted (c .before .before .before .size64 .ensures .0)
     (c .before .before .section-start .ensures .0) (c .before .section-length .ensures .0)
 
 pub section-spec : {M : Type 1} → statement M

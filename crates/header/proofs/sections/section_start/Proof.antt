@@ -13,7 +13,10 @@ block-length-requires c κs = search needs
 
 returns : tie.Need-returns
 returns c =
-    (c .block-length .ensures .0 ∙ sym (sectionStart-above _ (c .before .before .before .args .number) (c .before .if1 .taken)), c .block-length .ensures .1)
+    let number = c .before .before .before .args .number in (
+      c .block-length .ensures .0 ∙ sym (sectionStart-above _ number (c .before .if1 .taken)),
+      c .block-length .ensures .1,
+    )
 
 header-length-requires : tie.Need-header-length-requires
 header-length-requires c κs = search needs
