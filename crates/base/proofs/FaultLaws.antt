@@ -27,9 +27,11 @@ any-firstNumber (f ∷ fs) numbered =
     go (f .fits)
 
 -- A test that holds of no element fails at each.
-pub any-none {ℓ} : {A : Type ℓ} (test : A → Bool) (list : List A) → any test list ≡ false → (k : ℕ) (d : A) → k < length list
+pub any-none {ℓ} : {A : Type ℓ} (test : A → Bool) (list : List A) → any test list ≡ false
+    → (k : ℕ) (d : A) → k < length list
     → test (getD list k d) ≡ false
 unfolding any
 any-none test [] none k d h = absurd (not-suc-le-zero h)
 any-none test (x ∷ xs) none zero d h = or-neither (test x) _ none .0
-any-none test (x ∷ xs) none (suc k) d h = any-none test xs (or-neither (test x) _ none .1) k d (le-of-suc-le-suc h)
+any-none test (x ∷ xs) none (suc k) d h =
+    any-none test xs (or-neither (test x) _ none .1) k d (le-of-suc-le-suc h)

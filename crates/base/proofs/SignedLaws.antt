@@ -20,7 +20,8 @@ carried z y h e = toZ-ofZ w32 z (record { sfits = h }) ∙ e
 -- A number below 0 counts as 0.
 pub nonNegative-below : (z : ℤ) → ltZ z (pos 0) ≡ true → nonNegative z ≡ 0
 unfolding nonNegative
-nonNegative-below (pos n) e = let z : _≡_ {A = ℕ} 0 1 = cc (le-ltb n 0 (omega arith)) in absurd (omega arith)
+nonNegative-below (pos n) e =
+    let z : _≡_ {A = ℕ} 0 1 = cc (le-ltb n 0 (omega arith)) in absurd (omega arith)
 nonNegative-below (negsuc n) e = refl
 
 -- Any other counts as itself.

@@ -9,7 +9,8 @@ use lib.Seq.{take-all}
 use Rattle.base.specs.Lists.{total}
 
 -- One element more.
-pub total-take-suc : (list : List ℕ) (k : ℕ) → total (take (suc k) list) ≡ total (take k list) + getD list k 0
+pub total-take-suc : (list : List ℕ) (k : ℕ)
+    → total (take (suc k) list) ≡ total (take k list) + getD list k 0
 unfolding total
 total-take-suc [] zero = refl
 total-take-suc [] (suc k) = refl

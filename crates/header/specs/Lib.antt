@@ -1,1 +1,2 @@
 pub mod TableFaults
+pub mod WrittenHeader

@@ -16,7 +16,8 @@ b-id-requires c κs =
 returns : tie.Need-returns
 unfolding idAnswer
 returns c =
-    simp (accepted-number _ _ (c .before .before .header-fault .ensures) (c .before .if1 .taken)) (c .b-id .ensures)
+    simp (accepted-number _ _ (c .before .before .header-fault .ensures) (c .before .if1 .taken))
+    (c .b-id .ensures)
 
 returns-2 : tie.Need-returns-2
 unfolding idAnswer

@@ -14,7 +14,8 @@ flag-set-requires c κs = search needs
 returns : tie.Need-returns
 unfolding flagUnsupported
 returns c =
-    rw (← c .before .before .flags .ensures) (simp (sym (c .before .flag-set .ensures) ∙ c .if1 .taken))
+    rw (← c .before .before .flags .ensures)
+    (simp (sym (c .before .flag-set .ensures) ∙ c .if1 .taken))
 
 flag-set-requires-2 : tie.Need-flag-set-requires-2
 flag-set-requires-2 c κs = search needs
@@ -23,7 +24,8 @@ returns-2 : tie.Need-returns-2
 unfolding flagUnsupported
 returns-2 c =
     rw (← c .before .before .before .flags .ensures)
-    (simp (sym (c .before .before .flag-set .ensures) ∙ c .before .if1 .left) (c .flag-set2 .ensures))
+    (simp (sym (c .before .before .flag-set .ensures) ∙ c .before .if1 .left)
+    (c .flag-set2 .ensures))
 
 pub flag-unsupported-spec : {M : Type 1} → statement M
 flag-unsupported-spec =

@@ -16,7 +16,8 @@ returns : tie.Need-returns
 unfolding headerLengthTooSmall
 returns c =
     let field = c .before .l-header in
-    c .is-below .ensures ∙ ap (signedBelow 121) (carried (field .result) _ (field .ok) (field .ensures))
+    c .is-below .ensures ∙ ap (signedBelow 121)
+    (carried (field .result) _ (field .ok) (field .ensures))
 
 pub header-length-too-small-spec : {M : Type 1} → statement M
 header-length-too-small-spec = tie.close (tie.spec l-header-requires is-below-requires returns)

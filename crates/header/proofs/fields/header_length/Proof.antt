@@ -15,7 +15,8 @@ non-negative-requires c κs = search needs
 returns : tie.Need-returns
 returns c =
     let field = c .before .l-header in (
-      c .non-negative .ensures .0 ∙ ap nonNegative (carried (field .result) _ (field .ok) (field .ensures)),
+      c .non-negative .ensures .0 ∙ ap nonNegative
+          (carried (field .result) _ (field .ok) (field .ensures)),
       c .non-negative .ensures .1,
     )
 

@@ -6,7 +6,12 @@ use lib.IntN.{ℤ, natAbs}
 use mir.Syntax.{w32}
 use mir.Val.{toZ, ofZ}
 use mir.ValLaws.{toZ-ofZ}
-use Rattle.base.proofs.SignedLaws.{nonNegative-below, natAbs-nonNegative, nonNegative-fits, not-below}
+use Rattle.base.proofs.SignedLaws.{
+  nonNegative-below,
+  natAbs-nonNegative,
+  nonNegative-fits,
+  not-below,
+}
 use Rattle.header.proofs.fields.non_negative.Statement.{statement}
 use Rattle.header.proofs.fields.non_negative.Tie as tie
 

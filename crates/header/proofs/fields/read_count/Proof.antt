@@ -17,7 +17,8 @@ returns : tie.Need-returns
 unfolding readCount
 returns c =
     let field = c .before .n-reads in (
-      c .non-negative .ensures .0 ∙ ap nonNegative (carried (field .result) _ (field .ok) (field .ensures)),
+      c .non-negative .ensures .0 ∙ ap nonNegative
+          (carried (field .result) _ (field .ok) (field .ensures)),
       c .non-negative .ensures .1,
     )
 

@@ -47,7 +47,8 @@ unfolding sectionLength
 loop-again c =
     let l = c .before .before .loop in
     let header = headerOf (c .before .before .before .before .args .input .now) in
-    let size : c .section-length .result ≡ sectionLength header (l .k) = c .section-length .ensures .0 in
+    let size : c .section-length .result ≡ sectionLength header
+    (l .k) = c .section-length .ensures .0 in
     let e = total-take-suc (sectionLengths header) (l .k) in
     (omega arith, rw add-one (omega arith), omega arith)
 

@@ -1,7 +1,13 @@
 -- `header::sections::section` meets its contract: a header that earns no number has all its
 -- sections inside the input. Assumes nothing.
 use borrow.Author.Needs.{needs}
-use Rattle.format.proofs.SectionLaws.{accepted-number, refused-number, accepted-table, part-fits, part-answer}
+use Rattle.format.proofs.SectionLaws.{
+  accepted-number,
+  refused-number,
+  accepted-table,
+  part-fits,
+  part-answer,
+}
 use Rattle.format.specs.BlockAnswer.{sectionAnswer}
 use Rattle.header.proofs.sections.section.Statement.{statement}
 use Rattle.header.proofs.sections.section.Tie as tie
@@ -22,7 +28,8 @@ size64-requires c κs = search needs
 
 section-start-requires : tie.Need-section-start-requires
 section-start-requires c κs =
-    accepted-table _ (accepted-number _ _ (c .before .before .header-fault .ensures) (c .before .if1 .left))
+    accepted-table _
+    (accepted-number _ _ (c .before .before .header-fault .ensures) (c .before .if1 .left))
 
 section-length-requires : tie.Need-section-length-requires
 section-length-requires c κs =
@@ -43,7 +50,8 @@ part-result-end c =
     let b = c .before .before .before in
     let a = b .before .before .before .args in
     let accepted = accepted-number _ _ (b .before .header-fault .ensures) (b .if1 .left) in
-    let fits = part-fits (a .input .now) (a .number) _ _ _ accepted (c .before .before .size64 .ensures .0)
+    let fits = part-fits (a .input .now) (a .number) _ _ _ accepted
+    (c .before .before .size64 .ensures .0)
     (c .before .section-start .ensures .0) (c .section-length .ensures .0) in
     search needs
 
@@ -52,7 +60,8 @@ returns-2 c =
     let b = c .before .before .before .before in
     let a = b .before .before .before .args in
     let accepted = accepted-number _ _ (b .before .header-fault .ensures) (b .if1 .left) in
-    part-answer (a .input .now) (a .number) _ _ _ accepted (c .before .before .before .size64 .ensures .0)
+    part-answer (a .input .now) (a .number) _ _ _ accepted
+    (c .before .before .before .size64 .ensures .0)
     (c .before .before .section-start .ensures .0) (c .before .section-length .ensures .0)
 
 pub section-spec : {M : Type 1} → statement M
