@@ -1,11 +1,9 @@
 -- Laws of sums of lists. Assumes nothing.
-use mathlib.Core.Path.{_≡_, refl, sym, ap, _∙_}
+use mathlib.Core.Path.{_≡_, refl}
 use Prim.Native.Nat.{ℕ, zero, suc, _+_, _≤_}
-use native.Mathlib.Nat.{add-zero}
 use native.Mathlib.Omega.{arith}
-use mathlib.Core.List.{List, [], _∷_, _++_}
-use lib.ListN.{length, getD, take, drop, List·getD-eq-default}
-use lib.Seq.{take-all}
+use mathlib.Core.List.{List, [], _∷_}
+use lib.ListN.{getD, take}
 use Rattle.base.specs.Lists.{total}
 
 -- One element more.

@@ -111,8 +111,7 @@ section-inside header number =
     omega (
       arith,
       total-take-suc (sectionLengths header) number,
-      total-take-le
-          (sectionLengths header) (suc number),
+      total-take-le (sectionLengths header) (suc number),
     )
 
 -- ---- Headers that are not refused
@@ -165,12 +164,13 @@ unfolding headerFaults readCountOutOfRange readCount
 accepted-count input e =
     signedOutside-within maxReads (headerOf input .«n_reads») (fault-fails input e 5 (omega arith))
 
--- Its section is what it is asked for, and has its length.
+-- The section that it answers is the one that stands there.
 pub accepted-section : (input : List ℕ) (number : ℕ) → headerRefused input ≡ false
     → sectionAnswer input number ≡ sectionOf input number
 unfolding sectionAnswer
 accepted-section input number e = simp e
 
+-- A section is as long as its length field says.
 pub length-sectionOf : (input : List ℕ) (number : ℕ) → headerRefused input ≡ false
     → length (sectionOf input number) ≡ sectionLength (headerOf input) number
 unfolding sectionOf
@@ -183,12 +183,14 @@ length-sectionOf input number e =
 
 -- ---- The part that is asked for, as code finds it
 
-module _ (input : List ℕ) (number index start size : ℕ) (accepted : headerRefused input ≡ false) (same : index ≡ number)
-    (starts : start ≡ sectionStart (headerOf input) index)
+module _ (input : List ℕ) (number index start size : ℕ) (accepted : headerRefused input ≡ false)
+    (same : index ≡ number) (starts : start ≡ sectionStart (headerOf input) index)
     (sized : size ≡ sectionLength (headerOf input) index) where
+  -- It is inside the input.
   pub part-fits : start + size ≤ length input
   part-fits = omega (arith, section-inside (headerOf input) index, accepted-block input accepted)
 
+  -- It is the answer.
   pub part-answer : take (start + size - start) (drop start input) ≡ sectionAnswer input number
   unfolding sectionAnswer sectionOf
   part-answer =

@@ -18,6 +18,7 @@ use Rattle.header.specs.WrittenHeader.{
   rawBytes,
 }
 
+-- The parts one after the other are the bytes of the table.
 pub written-parts : (fields : VaryingFields)
     → lengthBytes (fields .«l_dna») (fields .«l_size») (fields .«l_n»)
     ++ countBytes (fields .flags) (fields .«l_read») (fields .«n_reads») (fields .«b_id»)

@@ -1,7 +1,7 @@
 -- The table of contents that is written, of the fields that vary; and its bytes in the three parts
 -- in which they are written.
 use Prim.Native.Nat.{ℕ}
-use mathlib.Core.List.{List, [], _∷_, _++_}
+use mathlib.Core.List.{List, _++_}
 use lib.IntN.{pos}
 use Rattle.base.specs.Lists.{build}
 use Rattle.base.specs.Numbers.{leBytes}

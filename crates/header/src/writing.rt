@@ -1,7 +1,6 @@
 // A table of contents written over the first 121 bytes of a lent buffer. What varies is given;
-// every other field has the value that the fixed rule gives it (01; specs/FixedRule.antt of format).
+// every other field has the value that the fixed rule gives it (specs/FixedRule.antt of format).
 use crate::faults::MAGIC;
-use crate::faults::MIN_VERSION;
 use integers::put_u16;
 use integers::put_u32;
 use integers::put_u64;
@@ -21,6 +20,9 @@ ghost use Rattle.header.specs.WrittenHeader.{
 
 // l_header, with no extra bytes.
 const HEADER_LENGTH: u32 = 121;
+
+// The version that is written.
+const WRITTEN_VERSION: u16 = 20505;
 
 // q_type.
 const QUALITY_TYPE: u32 = 40;
@@ -76,7 +78,7 @@ fn put_counts(out: &mut [u8], flags: u32, size: u32, count: u32, id: u64)
     put_u32(out, 42, flags);
     put_u32(out, 46, size);
     put_u32(out, 50, count);
-    put_u16(out, 54, MIN_VERSION);
+    put_u16(out, 54, WRITTEN_VERSION);
     put_u64(out, 56, id);
 }
 
