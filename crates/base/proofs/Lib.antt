@@ -10,3 +10,6 @@ pub mod PasteLaws
 pub mod PaddingLaws
 pub mod PackedPasteLaws
 pub mod FilledLaws
+pub mod SignedLaws
+pub mod FaultLaws
+pub mod SumLaws

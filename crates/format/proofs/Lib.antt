@@ -6,3 +6,4 @@ pub mod ReadsExactly
 pub mod JudgesFiles
 pub mod ExamplesHold
 pub mod HeaderWritten
+pub mod SectionLaws

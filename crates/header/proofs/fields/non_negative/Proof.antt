@@ -1,0 +1,41 @@
+-- `header::fields::non_negative` meets its contract: a number that is not below 0 is its own size.
+-- Assumes nothing.
+use mathlib.Core.Path.{_≡_, sym}
+use native.Mathlib.Omega.{arith}
+use lib.IntN.{ℤ, natAbs}
+use mir.Syntax.{w32}
+use mir.Val.{toZ, ofZ}
+use mir.ValLaws.{toZ-ofZ}
+use Rattle.base.proofs.SignedLaws.{
+  nonNegative-below,
+  natAbs-nonNegative,
+  nonNegative-fits,
+  not-below,
+}
+use Rattle.header.proofs.fields.non_negative.Statement.{statement}
+use Rattle.header.proofs.fields.non_negative.Tie as tie
+
+returns : tie.Need-returns
+returns c =
+    let z : ℤ = c .before .args .number in
+    let q : toZ w32 (ofZ w32 z) ≡ z = toZ-ofZ w32 z (c .before .fits .number) in
+    (sym (nonNegative-below z (rw q at (c .if1 .taken))), omega arith)
+
+cast-result : tie.Need-cast-result
+cast-result c =
+    let z : ℤ = c .before .args .number in
+    let q : toZ w32 (ofZ w32 z) ≡ z = toZ-ofZ w32 z (c .before .fits .number) in
+    let e : natAbs z ≡ _ = natAbs-nonNegative z (rw q at (c .if1 .left)) in
+    let small = nonNegative-fits z (c .before .fits .number .sfits) in
+    rw q (not-below z (rw q at (c .if1 .left)), omega arith)
+
+returns-2 : tie.Need-returns-2
+returns-2 c =
+    let z : ℤ = c .before .args .number in
+    let q : toZ w32 (ofZ w32 z) ≡ z = toZ-ofZ w32 z (c .before .fits .number) in
+    let e : natAbs z ≡ _ = natAbs-nonNegative z (rw q at (c .if1 .left)) in
+    let small = nonNegative-fits z (c .before .fits .number .sfits) in
+    rw q (e, omega arith)
+
+pub non-negative-spec : {M : Type 1} → statement M
+non-negative-spec = tie.close (tie.spec returns cast-result returns-2)

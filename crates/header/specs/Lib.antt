@@ -1,0 +1,2 @@
+pub mod TableFaults
+pub mod WrittenHeader

@@ -1,0 +1,64 @@
+-- `ora::section_span` meets its contract: at each `return` the tests that led there say which case
+-- of the answer holds. Assumes nothing.
+use borrow.Author.Needs.{needs}
+use Rattle.format.proofs.SectionLaws.{
+  accepted-number,
+  refused-number,
+  accepted-table,
+  span-found,
+  span-empty,
+}
+use Rattle.format.specs.BlockAnswer.{spanAnswer}
+use Rattle.ora.proofs.section_span.Statement.{statement}
+use Rattle.ora.proofs.section_span.Tie as tie
+
+header-fault-requires : tie.Need-header-fault-requires
+header-fault-requires c κs = search needs
+
+returns : tie.Need-returns
+unfolding spanAnswer
+returns c =
+    simp (refused-number _ _ (c .before .header-fault .ensures) (c .if1 .taken))
+
+size64-requires : tie.Need-size64-requires
+size64-requires c κs = search needs
+
+section-length-requires : tie.Need-section-length-requires
+section-length-requires c κs =
+    accepted-table _
+    (accepted-number _ _ (c .before .before .header-fault .ensures) (c .before .if1 .left))
+
+returns-2 : tie.Need-returns-2
+returns-2 c =
+    let b = c .before .before .before in
+    let a = b .before .before .before .args in
+    let accepted = accepted-number _ _ (b .before .header-fault .ensures) (b .if1 .left) in
+    span-empty (a .input .now) (a .number) _ _ accepted (c .before .before .size64 .ensures .0)
+    (c .before .section-length .ensures .0) (c .if2 .taken)
+
+section-start-requires : tie.Need-section-start-requires
+section-start-requires c κs =
+    let b = c .before .before .before in
+    accepted-table _ (accepted-number _ _ (b .before .header-fault .ensures) (b .if1 .left))
+
+returns-3 : tie.Need-returns-3
+returns-3 c =
+    let b = c .before .before .before .before in
+    let a = b .before .before .before .args in
+    let accepted = accepted-number _ _ (b .before .header-fault .ensures) (b .if1 .left) in
+    span-found (a .input .now) (a .number) _ _ _ accepted
+    (c .before .before .before .size64 .ensures .0)
+    (c .section-start .ensures .0) (c .before .before .section-length .ensures .0)
+    (c .before .if2 .left)
+
+pub section-span-spec : {M : Type 1} → statement M
+section-span-spec =
+    tie.close
+    (tie.spec
+    header-fault-requires
+    returns
+    size64-requires
+    section-length-requires
+    returns-2
+    section-start-requires
+    returns-3)
