@@ -4,46 +4,14 @@ use mathlib.Core.Path.{_≡_, refl}
 use mathlib.Core.List.{List, [], _∷_, flatten}
 use native.Mathlib.Omega.{arith}
 use Rattle.base.specs.Lists.{total, keep, placesWhere, stepsFrom}
-use Rattle.base.specs.Groups.{groupSizes}
-use Rattle.base.specs.Numbers.{le, signed, nonNegative}
-use Rattle.base.specs.Packed.{symbolsAt}
+use Rattle.base.specs.Numbers.{signed, nonNegative}
 use Rattle.base.specs.Paste.{pasted}
-use Rattle.base.specs.Scan.{checked, andThen}
 use Rattle.base.proofs.Tests.{belowTest, test-below}
-use Rattle.dna.specs.Reference.{referenceSizeWrong}
-use Rattle.dna.specs.Sizes.{lengthInvalid}
 use Rattle.dna.specs.Record.{Entry, RecordFields, global, StoredRecord}
 use Rattle.dna.specs.Division.{readEnds}
-use Rattle.dna.specs.RecordAt.{
-  entryOf,
-  entriesAt,
-  packedAt,
-  perfectAt,
-  globalAt,
-  leftPlace,
-  localAt,
-  flaggedAt,
-  judgedAt,
-  fieldsAt,
-  varint16At,
-  wordsFor,
-  offsetsAt,
-  nListAt,
-  recordAt,
-}
-use Rattle.dna.specs.Walk.{
-  inRead,
-  onward,
-  checkedRead,
-  lastPosition,
-  readsAt,
-  flagsAt,
-  groupAt,
-  groupsAt,
-  sectionWalk,
-}
 use Rattle.dna.specs.Sums.{reference, entry, oneRead}
 use Rattle.dna.proofs.SumsHold.{computed}
+use Rattle.dna.proofs.SumsAnsweredHold.{walking}
 use Rattle.format.specs.Header.{headerOf, flagSet, readCount}
 use Rattle.format.specs.Sections.{sectionLengths, sectionStart, sectionLength, sectionOf, blockLength}
 use Rattle.format.specs.HeaderFaults.{
@@ -123,11 +91,13 @@ use Rattle.format.specs.Examples.{
   turnedRead,
   placeAt,
   RuleRight,
+  OrdersRight,
 }
+use Rattle.format.specs.EncodeAnswer.{encodeFaults}
 
 -- All that a block's answer computes with.
 unfoldable answering : Unit {0}
-unfolding computed total groupSizes le signed nonNegative symbolsAt pasted checked andThen referenceSizeWrong lengthInvalid readEnds entryOf entriesAt packedAt perfectAt globalAt leftPlace localAt flaggedAt judgedAt fieldsAt varint16At wordsFor offsetsAt nListAt recordAt inRead onward checkedRead lastPosition readsAt flagsAt groupAt groupsAt sectionWalk headerOf flagSet readCount sectionLengths sectionStart sectionLength sectionOf blockLength signedBelow signedOutside headerTruncated magicWrong versionUnsupported headerLengthTooSmall flagUnsupported readCountOutOfRange sectionsTruncated headerFaults dnaSizeWrong nSectionWrong lengthFaults blockReads blockCounts fileCounts modulo64 headerRefused idAnswer stage lReadInvalid headerLengths lengthsAnswer lengthsStage dnaStage blockAnswer blockOutcome roomAnswer decodeAnswer decoded lettersAfter endsAfter decodedLetters decodedEnds afterBlock onBlock blocksAnswer fileAnswer fileOutcome validated flatten blockWith listingBlock leftOverBlock
+unfolding walking total signed nonNegative pasted readEnds headerOf flagSet readCount sectionLengths sectionStart sectionLength sectionOf blockLength signedBelow signedOutside headerTruncated magicWrong versionUnsupported headerLengthTooSmall flagUnsupported readCountOutOfRange sectionsTruncated headerFaults dnaSizeWrong nSectionWrong lengthFaults blockReads blockCounts fileCounts modulo64 headerRefused idAnswer stage lReadInvalid headerLengths lengthsAnswer lengthsStage dnaStage blockAnswer blockOutcome roomAnswer decodeAnswer decoded lettersAfter endsAfter decodedLetters decodedEnds afterBlock onBlock blocksAnswer fileAnswer fileOutcome validated flatten blockWith listingBlock leftOverBlock
 answering = tt
 
 -- 01's listing block is well-formed and decodes as its listing says.
@@ -181,6 +151,16 @@ listing-right =
       ends = refl;
       judged = refl;
       left-over = refl;
+    }
+
+-- The faults of header, lengths and writer stand in 01's order.
+pub orders-right : OrdersRight
+unfolding headerFaults lengthFaults encodeFaults
+orders-right =
+    record {
+      header = λ input. refl;
+      lengths = λ input lengths. refl;
+      writer = λ bases reference input room. refl;
     }
 
 -- The fixed rule writes 31 entries, puts 32 into a raw record, and fills on the strand of the read.

@@ -9,12 +9,13 @@ use lib.Seq.{take-append-le, drop-append-le}
 use lib.IntN.{ℤ, pos, negsuc}
 use lib.Dec.{ltb}
 use borrow.Author.Tests.{ltb-false, le-ltb}
-use Rattle.base.specs.Lists.{part, total, any}
+use Rattle.base.specs.Lists.{part, any}
 use Rattle.base.specs.Numbers.{le, int32, nonNegative}
 use Rattle.base.specs.Faults.{NoneFits}
 use Rattle.base.proofs.Tests.{absurd-test, or-neither, neither-or}
 use Rattle.format.specs.Header.{Header, headerOf}
-use Rattle.format.specs.Sections.{sectionLengths, sectionStart, sectionLength, sectionOf, blockLength}
+use Rattle.format.specs.Sections.{sectionStart, sectionLength, sectionOf, blockLength}
+use Rattle.format.proofs.SectionLaws.{section-inside}
 use Rattle.format.specs.HeaderFaults.{
   signedBelow,
   headerTruncated,
@@ -75,18 +76,6 @@ headerOf-append block rest h =
     }
 
 -- ---- Sections
-
-total-take : (n : ℕ) (list : List ℕ) → total (take n list) + getD list n 0 ≤ total list
-unfolding total
-total-take zero [] = omega arith
-total-take (suc n) [] = omega arith
-total-take zero (x ∷ xs) = omega arith
-total-take (suc n) (x ∷ xs) = omega (arith, total-take n xs)
-
--- A section ends inside the block.
-pub section-inside : (header : Header) (number : ℕ) → sectionStart header number + sectionLength header number ≤ blockLength header
-unfolding sectionStart sectionLength blockLength
-section-inside header number = omega (arith, total-take number (sectionLengths header))
 
 part-append : (block rest : List ℕ) (from count : ℕ) → from + count ≤ length block → part (block ++ rest) from count ≡ part block from count
 part-append block rest from count h =

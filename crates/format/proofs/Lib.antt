@@ -7,3 +7,4 @@ pub mod JudgesFiles
 pub mod ExamplesHold
 pub mod HeaderWritten
 pub mod SectionLaws
+pub mod SpanLaws

@@ -7,7 +7,10 @@ use lib.ListN.{replicate}
 use Rattle.base.specs.Lists.{build}
 use Rattle.dna.specs.Record.{Entry, RecordFields, global, raw, StoredRecord}
 use Rattle.dna.specs.Sums.{A, C, G, T, N, reference, packed, entry}
+use Rattle.format.specs.HeaderFaults.{headerFaults}
+use Rattle.format.specs.Lengths.{lengthFaults}
 use Rattle.format.specs.WellFormed.{WellFormed}
+use Rattle.format.specs.EncodeAnswer.{EncodeInput, encodeFaults}
 use Rattle.format.specs.Outcome.{Outcome, refusal, acceptedBlock, acceptedFile}
 use Rattle.format.specs.BlockAnswer.{decoded, decodedLetters, decodedEnds, idAnswer}
 use Rattle.format.specs.FileAnswer.{validated}
@@ -44,6 +47,13 @@ pub record ListingRight : Type 0 where
   pub judged : validated 12 reference listingBlock
       ≡ acceptedFile 1 (record { reads = 1; letters = 4; entries = 1; differences = 1 })
   pub left-over : decoded 12 reference leftOverBlock [] [] ≡ refusal 21 0 0
+
+-- The order in which faults are judged (01, Numbers of refusal): the header's, those after the lengths, the writer's.
+pub record OrdersRight : Type 0 where
+  pub header : (input : List ℕ) → map (λ f. f .number) (headerFaults input) ≡ 2 ∷ 3 ∷ 4 ∷ 5 ∷ 6 ∷ 7 ∷ 8 ∷ []
+  pub lengths : (input lengths : List ℕ) → map (λ f. f .number) (lengthFaults input lengths) ≡ 10 ∷ 11 ∷ []
+  pub writer : (bases : ℕ) (reference : List ℕ) (input : EncodeInput) (room : ℕ)
+      → map (λ f. f .number) (encodeFaults bases reference input room) ≡ 1 ∷ 30 ∷ 31 ∷ 32 ∷ 33 ∷ 34 ∷ []
 
 -- A reference of 68 bases, ACGT again and again.
 unfoldable pub longReference : List ℕ
