@@ -1,5 +1,6 @@
 // The reference: its size, its bases, and the ASCII letters of a stretch on either strand. The contracts cite
 // dna/specs/Reference.antt; the tables of words are those of specs/Tables.antt, made once and lent to each call.
+use packing::symbol2;
 ghost use mathlib.Core.Path.{_≡_};
 ghost use mathlib.Core.Bool.{Bool, true, false};
 ghost use Prim.Native.Nat.{_+_, _-_, _*_, _/_, _<_, _≤_};
@@ -38,7 +39,7 @@ pub fn base_at(reference: &[u8], index: usize) -> u8
     requires { ⌜ index / 4 < length (now reference) ⌝ }
     ensures { λ r. ⌜ r ≡ referenceBase (now (reference .entry)) index ⌝ }
 {
-    (reference[index / 4] >> (6 - 2 * (index % 4))) % 4
+    symbol2(reference, index)
 }
 
 // The complement of a base.
