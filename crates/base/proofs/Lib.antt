@@ -13,3 +13,4 @@ pub mod FilledLaws
 pub mod SignedLaws
 pub mod FaultLaws
 pub mod SumLaws
+pub mod PlacesLaws

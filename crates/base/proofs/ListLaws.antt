@@ -6,8 +6,18 @@ use native.Mathlib.Decide.{decLe}
 use native.Mathlib.Omega.{arith}
 use mathlib.Core.Bool.{Bool, true, false}
 use mathlib.Core.List.{List, [], _∷_, _++_}
-use lib.ListN.{length, getD, length-append, List·getD-append, List·getD-eq-default}
-use lib.Seq.{getD-append-add}
+use lib.ListN.{
+  length,
+  getD,
+  take,
+  drop,
+  length-append,
+  length-take,
+  length-drop,
+  List·getD-append,
+  List·getD-eq-default,
+}
+use lib.Seq.{getD-append-add, getD-take, getD-drop}
 use Rattle.base.specs.Lists.{build, Below, All}
 
 -- Two numbers are in one order or the other.
@@ -92,6 +102,21 @@ below-build {bound} n f h =
     record {
       each = λ k l.
           subst (λ (x : ℕ). x < bound) (sym (getD-build n f k 0 (subst (λ (m : ℕ). k < m) (length-build n f) l))) (h k);
+    }
+
+pub below-take : {bound : ℕ} (list : List ℕ) (n : ℕ) → Below bound list → Below bound (take n list)
+below-take {bound} list n h =
+    record {
+      each = λ k l.
+          let small : k < n = omega (arith, length-take n list) in
+          subst (λ (x : ℕ). x < bound) (sym (getD-take n list k 0 small)) (h .each k (omega (arith, length-take n list)));
+    }
+
+pub below-drop : {bound : ℕ} (list : List ℕ) (n : ℕ) → Below bound list → Below bound (drop n list)
+below-drop {bound} list n h =
+    record {
+      each = λ k l.
+          subst (λ (x : ℕ). x < bound) (sym (getD-drop n list k 0)) (h .each (n + k) (omega (arith, length-drop n list)));
     }
 
 -- ---- All

@@ -15,7 +15,7 @@ use Rattle.base.specs.Numbers.{nonNegative}
 use Rattle.base.specs.Faults.{Fault, fault, NoneFits}
 use Rattle.base.specs.Scan.{Scan, found, refused, checked}
 use Rattle.base.proofs.Tests.{absurd-test, or-neither, neither-or, and-first, not-false}
-use Rattle.base.proofs.ListLaws.{by-test}
+use Rattle.base.proofs.ListLaws.{by-test, below-take, below-drop}
 use Rattle.base.proofs.ScanLaws.{found-same, absurd-found, checked-none, checked-found, cond-yes, cond-no, cond-parts}
 use Rattle.dna.specs.Reference.{referenceSizeWrong, ReferenceFits}
 use Rattle.dna.specs.Sizes.{lengthInvalid, SizesStored}
@@ -268,19 +268,11 @@ block-accepts bases reference block rest divided fits wf d =
 
 -- ---- Accepted, then well-formed
 
-below-part : {bound : ℕ} (list : List ℕ) (from count : ℕ) → Below bound list → Below bound (part list from count)
-below-part {bound} list from count h =
-    record {
-      each = λ k l.
-          let some : k < count = omega (arith, length-take count (drop from list)) in
-          let inside : k < length (drop from list) = omega (arith, length-take count (drop from list)) in
-          subst (λ (x : ℕ). x < bound) (sym (getD-take count (drop from list) k 0 some ∙ getD-drop from list k 0))
-          (h .each (from + k) (omega (arith, length-drop from list)));
-    }
-
 pub section-bytes : (input : List ℕ) (number : ℕ) → AllBytes input → AllBytes (sectionOf input number)
 unfolding sectionOf
-section-bytes input number bytes = below-part input (sectionStart (headerOf input) number) (sectionLength (headerOf input) number) bytes
+section-bytes input number bytes =
+    below-take (drop (sectionStart (headerOf input) number) input) (sectionLength (headerOf input) number)
+    (below-drop input (sectionStart (headerOf input) number) bytes)
 
 -- The N section has a byte for each group of the lengths, where 11 does not fit.
 pub groups-counted : (input lengths : List ℕ) → LengthsAre input lengths → NoneFits (lengthFaults input lengths)
@@ -354,7 +346,7 @@ first-block bases input divided bytes a =
       begins = sym whole;
       size = size;
       wellFormed = record {
-        bytes = below-part input 0 n bytes;
+        bytes = below-take input n bytes;
         exact = sym own;
         noHeaderFault = faults-same input block head (a .header) table (omega arith);
         divided = divided;

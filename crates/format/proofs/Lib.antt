@@ -8,3 +8,6 @@ pub mod ExamplesHold
 pub mod HeaderWritten
 pub mod SectionLaws
 pub mod SpanLaws
+pub mod WrittenEntries
+pub mod WrittenLetters
+pub mod WrittenRecord

@@ -9,7 +9,7 @@ use lib.ListN.{length, getD, take, drop, length-append, length-drop}
 use lib.Seq.{take-at, drop-at, getD-drop}
 use Rattle.base.specs.Lists.{All, AllBytes}
 use Rattle.base.proofs.ScanLaws.{cond-no}
-use Rattle.base.proofs.ListLaws.{all-right}
+use Rattle.base.proofs.ListLaws.{all-right, below-drop}
 use Rattle.dna.specs.Reference.{referenceSizeWrong, ReferenceFits}
 use Rattle.dna.specs.Counts.{Counted}
 use Rattle.dna.proofs.OneDivision.{one-division}
@@ -107,13 +107,6 @@ on-parts (accepts divided) (acceptsFile more) e use′ = use′ divided more ref
 on-parts (accepts divided) (refusesFile number block read) e use′ = absurd-file e
 on-parts (refuses number read) rest e use′ = absurd-file e
 
-pub bytes-drop : (n : ℕ) (file : List ℕ) → AllBytes file → AllBytes (drop n file)
-bytes-drop n file bytes =
-    record {
-      each = λ k h.
-          subst (λ (x : ℕ). x < 256) (sym (getD-drop n file k 0)) (bytes .each (n + k) (omega (arith, length-drop n file)));
-    }
-
 blocks-found : (most bases : ℕ) (reference file : List ℕ) (ds : List BlockDivision) → AllBytes file → length file ≤ most
     → blocksAnswer most bases reference file ≡ acceptsFile ds → FileFound bases reference file
 unfolding flatten
@@ -135,7 +128,7 @@ blocks-found (suc most) bases reference (byte ∷ tail) ds bytes h e =
     let size : length file ≡ length (first .block) + length (first .rest) =
     ap length (first .begins) ∙ length-append (first .block) (first .rest) in
     let found : FileFound bases reference (drop n file) =
-    ih (drop n file) more (bytes-drop n file bytes) (omega (arith, ap length rest)) e₂ in
+    ih (drop n file) more (below-drop file n bytes) (omega (arith, ap length rest)) e₂ in
     record {
       blocks = first .block ∷ found .blocks;
       wellFormed = (first .wellFormed, found .wellFormed);

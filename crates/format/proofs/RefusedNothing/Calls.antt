@@ -50,7 +50,8 @@ use Rattle.format.specs.FileAnswer.{
 use Rattle.format.specs.EncodeAnswer.{EncodeInput, blockOf, encodeFaults, encodeNumber, encoded, encodedBuffer}
 use Rattle.format.specs.Demands.{upTo, writersOwn, Refusal, FileRefusal}
 use Rattle.format.proofs.BlockLaws.{block-found, FirstBlock, first-block}
-use Rattle.format.proofs.JudgesFiles.Blocks.{block-some, bytes-drop}
+use Rattle.format.proofs.JudgesFiles.Blocks.{block-some}
+use Rattle.base.proofs.ListLaws.{below-drop}
 use Rattle.format.proofs.AnswerNumbers.{OwnRefusal, AnswerOwn, block-own, decode-own}
 
 -- The outcome of a refusal.
@@ -161,7 +162,7 @@ blocks-refused (suc most) bases reference (byte ∷ tail) number block read byte
     let size : length file ≡ length (first .block) + length (first .rest) =
     ap length (first .begins) ∙ length-append (first .block) (first .rest) in
     let r : Refused bases reference (drop n file) number m read =
-    ih (drop n file) m (bytes-drop n file bytes) (omega (arith, ap length rest)) e₂ in
+    ih (drop n file) m (below-drop file n bytes) (omega (arith, ap length rest)) e₂ in
     record {
       before = first .block ∷ r .before;
       rest = r .rest;
