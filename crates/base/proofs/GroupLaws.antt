@@ -22,6 +22,7 @@ use lib.ListN.{
   length-take,
   length-drop,
   length-append,
+  length-map,
   length-replicate,
   take-append-drop,
 }
@@ -161,3 +162,23 @@ inGroups-some {A} =
     (subst (λ (groups : List (List A)). All (λ group. 0 < length group) groups) (sym inGroups-nil) tt)
     (λ x xs ih.
     subst (λ (groups : List (List A)). All (λ group. 0 < length group) groups) (sym (inGroups-cons x xs)) (omega arith, ih))
+
+-- ---- Groups of a mapped list
+
+map-take {ℓ κ} : {A : Type ℓ} {B : Type κ} (f : A → B) (n : ℕ) (list : List A) → take n (map f list) ≡ map f (take n list)
+map-take f zero list = refl
+map-take f (suc n) [] = refl
+map-take f (suc n) (x ∷ xs) = ap (λ (rest : List _). f x ∷ rest) (map-take f n xs)
+
+map-drop {ℓ κ} : {A : Type ℓ} {B : Type κ} (f : A → B) (n : ℕ) (list : List A) → drop n (map f list) ≡ map f (drop n list)
+map-drop f zero list = refl
+map-drop f (suc n) [] = refl
+map-drop f (suc n) (x ∷ xs) = map-drop f n xs
+
+pub inGroups-map {ℓ κ} : {A : Type ℓ} {B : Type κ} (f : A → B) (list : List A) → inGroups (map f list) ≡ map (map f) (inGroups list)
+unfolding inGroups
+inGroups-map f list =
+    ap (λ (n : ℕ). build (groupCount n) (λ g. part (map f list) (8 * g) 8)) (length-map list f)
+    ∙ build-cong (groupCount (length list)) _ _
+    (λ g h. ap (take 8) (map-drop f (8 * g) list) ∙ map-take f 8 (drop (8 * g) list))
+    ∙ sym (map-build (map f) (groupCount (length list)) (λ g. part list (8 * g) 8))

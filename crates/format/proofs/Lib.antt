@@ -11,3 +11,6 @@ pub mod SpanLaws
 pub mod WrittenEntries
 pub mod WrittenLetters
 pub mod WrittenRecord
+pub mod WrittenDivision
+pub mod WrittenSizes
+pub mod WrittenBound
