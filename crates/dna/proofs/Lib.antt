@@ -9,6 +9,7 @@ pub mod SizesFind
 pub mod RecordFinds
 pub mod RecordFound
 pub mod RulesMean
+pub mod RecordBytes
 pub mod WalkLaws
 pub mod WalkFinds
 pub mod WalkFound

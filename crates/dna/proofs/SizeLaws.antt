@@ -27,7 +27,7 @@ use Rattle.dna.specs.Sizes.{
 }
 
 -- Bytes of a list, element by element.
-flatMap-bytes {ℓ} : {A : Type ℓ} (f : A → List ℕ) (list : List A) → ((x : A) → AllBytes (f x)) → AllBytes (flatMap f list)
+pub flatMap-bytes {ℓ} : {A : Type ℓ} (f : A → List ℕ) (list : List A) → ((x : A) → AllBytes (f x)) → AllBytes (flatMap f list)
 unfolding flatMap
 flatMap-bytes f [] h = below-nil 256
 flatMap-bytes f (x ∷ xs) h = below-append (f x) (flatMap f xs) (h x) (flatMap-bytes f xs h)

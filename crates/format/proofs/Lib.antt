@@ -14,3 +14,4 @@ pub mod WrittenRecord
 pub mod WrittenDivision
 pub mod WrittenSizes
 pub mod WrittenBound
+pub mod WrittenBlock

@@ -134,9 +134,13 @@ record-length context stored fits rules =
     let go : (t : Bool) → (t ≡ true → NListHolds (context .readLength) (stored .nOffsets))
     → 8 * length (front ++ cond t (nListBytes (stored .nOffsets)) []) ≤ 5 * context .readLength + 2000
     = λ t. elim t [
-        true ↦ λ h.
-        omega (arith, length-append front (nListBytes (stored .nOffsets)), fields-length context (stored .fields) (fits .fields),
-        nList-length (context .readLength) (stored .nOffsets) (h refl))
+      | true ↦ λ h.
+          omega (
+            arith,
+            length-append front (nListBytes (stored .nOffsets)),
+            fields-length context (stored .fields) (fits .fields),
+            nList-length (context .readLength) (stored .nOffsets) (h refl),
+          )
       | false ↦ λ h. omega (arith, length-append front [], fields-length context (stored .fields) (fits .fields))
     ] in
     go (hasNList context (stored .fields)) (rules .nList)

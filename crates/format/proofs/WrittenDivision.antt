@@ -199,14 +199,16 @@ unfolding writtenNSection writtenGroup groupBitStray pieceOf
 groups-meet [] = tt
 groups-meet (ws ∷ groups) =
     let stray : (test : ReadContext → Bool) → byteBitStray (length (map lengthOf ws)) (bitsOf test ws) ≡ false
-    = λ test. ap (λ (n : ℕ). byteBitStray n (bitsOf test ws)) (length-map ws lengthOf) ∙ bits-clear test ws in
-    (record {
-      reads = length-map ws pieceOf ∙ sym (length-map ws lengthOf);
-      noStrayBit =
-          neither-or _ _ (stray (λ c. c .perfectBit))
-          (neither-or _ _ (stray (λ c. c .forward)) (neither-or _ _ (stray (λ c. c .withN)) (stray (λ c. c .incremental))));
-      withN = refl;
-    }, groups-meet groups)
+    = λ test. ap (λ (n : ℕ). byteBitStray n (bitsOf test ws)) (length-map ws lengthOf) ∙ bits-clear test ws in (
+      record {
+        reads = length-map ws pieceOf ∙ sym (length-map ws lengthOf);
+        noStrayBit =
+            neither-or _ _ (stray (λ c. c .perfectBit))
+            (neither-or _ _ (stray (λ c. c .forward)) (neither-or _ _ (stray (λ c. c .withN)) (stray (λ c. c .incremental))));
+        withN = refl;
+      },
+      groups-meet groups,
+    )
 
 -- Every record of a list meets the rules, for the codes of its read.
 abbrev pub AllMeet : (reference : List ℕ) (reads : List (List ℕ)) (ws : List Written) → Type 0

@@ -29,10 +29,11 @@ use Rattle.format.specs.FixedRule.{storedFrom, allEqual, writtenSizes}
 fit-from : (has : Bool) (previous : ℕ) (lengths : List ℕ) → All StoredFits (storedFrom has previous lengths)
 unfolding storedFrom
 fit-from has previous [] = tt
-fit-from has previous (size ∷ lengths) =
-    (by-test (has && eqb size previous) (λ t. rw t tt)
-    (λ t. by-test (ltb size 256) (λ u. rw (t, u) (ltb-true size 256 u)) (λ u. rw (t, u) tt)),
-    fit-from true size lengths)
+fit-from has previous (size ∷ lengths) = (
+  by-test (has && eqb size previous) (λ t. rw t tt)
+      (λ t. by-test (ltb size 256) (λ u. rw (t, u) (ltb-true size 256 u)) (λ u. rw (t, u) tt)),
+  fit-from true size lengths,
+)
 
 first-from : (lengths : List ℕ) → firstIsSame (storedFrom false 0 lengths) ≡ false
 unfolding storedFrom firstIsSame isSame

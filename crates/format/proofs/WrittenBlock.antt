@@ -1,0 +1,183 @@
+-- The block that the fixed rule writes is well-formed, and divided as the rule says. Assumes nothing.
+use mathlib.Core.Path.{_≡_, refl, sym, ap, ap₂, _∙_, subst}
+use Prim.Native.Nat.{ℕ, zero, suc, _+_, _-_, _*_, _/_, _^_, _≤_, _<_}
+use native.Mathlib.Omega.{arith}
+use mathlib.Core.Bool.{Bool, true, false, cond, not, _||_}
+use mathlib.Core.List.{List, [], _∷_, _++_, map, flatten, flatMap}
+use lib.ListN.{length, getD, take, drop, length-append, length-map, length-take, length-drop}
+use lib.Seq.{take-at, drop-at}
+use lib.Dec.{ltb, eqb}
+use lib.IntN.{ℤ, pos}
+use borrow.Author.Tests.{le-ltb, eq-eqb, ltb-false}
+use Rattle.base.specs.Lists.{part, any, total, All, Below, AllBytes}
+use Rattle.base.specs.Groups.{groupCount, inGroups}
+use Rattle.base.specs.Numbers.{leBytes, nonNegative}
+use Rattle.base.specs.Packed.{byteOf}
+use Rattle.base.specs.Faults.{NoneFits}
+use Rattle.base.proofs.ListLaws.{by-test, below-nil, below-cons, below-append}
+use Rattle.base.proofs.NumberLaws.{length-leBytes, leBytes-bytes}
+use Rattle.base.proofs.PackedLaws.{byteOf-below}
+use Rattle.base.proofs.BitLaws.{cond-small}
+use Rattle.base.proofs.GroupLaws.{length-inGroups, flatten-inGroups, all-inGroups, length-flatten}
+use Rattle.base.proofs.Tests.{neither-or, or-neither, true-not}
+use Rattle.dna.specs.Sizes.{lengthInvalid, sizeSectionBytes, SizesStored, StoredSize}
+use Rattle.dna.specs.Record.{recordBytes, RecordFits}
+use Rattle.dna.specs.Division.{Piece, Group, Division, groupBytes, divisionBytes, Divides}
+use Rattle.dna.proofs.RecordBytes.{recordBytes-bytes}
+use Rattle.dna.proofs.SizeLaws.{sizeSection-bytes}
+use Rattle.dna.proofs.RulesMean.{rules-mean}
+use Rattle.format.specs.FixedRule.{
+  Candidate,
+  Written,
+  writtenFrom,
+  bitsOf,
+  writtenGroup,
+  writtenDivision,
+  writtenNSection,
+}
+use Rattle.format.proofs.WrittenRecord.{Meets, CandidateFits, written-meets}
+use Rattle.format.proofs.WrittenDivision.{AllMeet, pieceOf}
+use Rattle.format.proofs.WrittenBound.{record-length}
+
+-- ---- Every record of a list
+
+-- The reads as codes, and what the writer is given with them.
+pub record WrittenReads (reads : List (List ℕ)) (candidates : List Candidate) : Type 0 where
+  pub few : length reads ≤ 50000
+  pub valid : any lengthInvalid (map length reads) ≡ false
+  pub below : All (Below 5) reads
+  pub counted : length candidates ≡ length reads
+  pub fits : All CandidateFits candidates
+  pub small : total (map length reads) < 2 ^ 32
+
+pub all-meet : (bases : ℕ) (reference : List ℕ) (previous : ℕ) (reads : List (List ℕ)) (candidates : List Candidate)
+    → length candidates ≡ length reads → All (Below 5) reads → All CandidateFits candidates
+    → AllMeet reference reads (writtenFrom bases reference previous reads candidates)
+unfolding writtenFrom
+all-meet bases reference previous [] candidates n below fits = tt
+all-meet bases reference previous (codes ∷ reads) [] n below fits = absurd (omega arith)
+all-meet bases reference previous (codes ∷ reads) (candidate ∷ candidates) n below fits = (
+  written-meets bases reference previous codes candidate (below .0) (fits .0),
+  all-meet bases reference _ reads candidates (omega arith) (below .1) (fits .1),
+)
+
+pub meet-count : (reference : List ℕ) (reads : List (List ℕ)) (ws : List Written) → AllMeet reference reads ws → length ws ≡ length reads
+meet-count reference [] [] h = refl
+meet-count reference [] (w ∷ ws) h = absurd h
+meet-count reference (codes ∷ reads) [] h = absurd h
+meet-count reference (codes ∷ reads) (w ∷ ws) h = ap suc (meet-count reference reads ws (h .1))
+
+-- What every record of the list has: a bound, and bytes.
+record Small (w : Written) : Type 0 where
+  short : 8 * length (recordBytes (w .context) (w .stored)) ≤ 5 * w .context .readLength + 2000
+  bytes : AllBytes (recordBytes (w .context) (w .stored))
+
+all-small : (reference : List ℕ) (reads : List (List ℕ)) (ws : List Written) → AllMeet reference reads ws → All Small ws
+all-small reference [] [] h = tt
+all-small reference [] (w ∷ ws) h = absurd h
+all-small reference (codes ∷ reads) [] h = absurd h
+all-small reference (codes ∷ reads) (w ∷ ws) h = (
+  record {
+    short = record-length (w .context) (w .stored) (h .0 .fits) (rules-mean (w .context) (w .stored) .0 (h .0 .none));
+    bytes = recordBytes-bytes (w .context) (w .stored) (h .0 .fits);
+  },
+  all-small reference reads ws (h .1),
+)
+
+letters-total : (reference : List ℕ) (reads : List (List ℕ)) (ws : List Written) → AllMeet reference reads ws
+    → total (map (λ w. w .context .readLength) ws) ≡ total (map length reads)
+unfolding total
+letters-total reference [] [] h = refl
+letters-total reference [] (w ∷ ws) h = absurd h
+letters-total reference (codes ∷ reads) [] h = absurd h
+letters-total reference (codes ∷ reads) (w ∷ ws) h =
+    ap₂ (λ (a b : ℕ). a + b) (h .0 .readLength) (letters-total reference reads ws (h .1))
+
+-- ---- The DNA section
+
+pieces-length : (ws : List Written) → All Small ws
+    → 8 * length (flatMap (λ piece. piece .bytes) (map pieceOf ws)) ≤ 5 * total (map (λ w. w .context .readLength) ws) + 2000 * length ws
+unfolding flatMap total pieceOf
+pieces-length [] h = omega arith
+pieces-length (w ∷ ws) h =
+    omega (arith, length-append (recordBytes (w .context) (w .stored)) (flatMap (λ piece. piece .bytes) (map pieceOf ws)), h .0 .short, pieces-length ws (h .1))
+
+lettersOf : (ws : List Written) → ℕ
+lettersOf ws = total (map (λ w. w .context .readLength) ws)
+
+letters-append : (front back : List Written) → lettersOf (front ++ back) ≡ lettersOf front + lettersOf back
+unfolding lettersOf total
+letters-append [] back = omega arith
+letters-append (w ∷ ws) back = omega (arith, letters-append ws back)
+
+groups-length : (groups : List (List Written)) → All (All Small) groups
+    → 8 * length (divisionBytes (map writtenGroup groups)) ≤ 5 * lettersOf (flatten groups) + 2000 * length (flatten groups) + 32 * length groups
+unfolding divisionBytes flatMap flatten groupBytes writtenGroup lettersOf pieceOf
+groups-length [] h = omega arith
+groups-length (ws ∷ groups) h =
+    let pieces : List ℕ = flatMap (λ piece. piece .bytes) (map pieceOf ws) in
+    omega (
+      arith,
+      length-append (groupBytes (writtenGroup ws)) (divisionBytes (map writtenGroup groups)),
+      pieces-length ws (h .0),
+      groups-length groups (h .1),
+      letters-append ws (flatten groups),
+      length-append ws (flatten groups),
+    )
+
+bits-byte : (test : _) (ws : List Written) → bitsOf test ws < 256
+unfolding bitsOf
+bits-byte test ws = byteOf-below 2 8 _ (λ k h. cond-small (getD (map (λ w. test (w .context)) ws) k false))
+
+pieces-bytes : (ws : List Written) → All Small ws → AllBytes (flatMap (λ piece. piece .bytes) (map pieceOf ws))
+unfolding flatMap pieceOf
+pieces-bytes [] h = below-nil 256
+pieces-bytes (w ∷ ws) h = below-append (recordBytes (w .context) (w .stored)) _ (h .0 .bytes) (pieces-bytes ws (h .1))
+
+groups-bytes : (groups : List (List Written)) → All (All Small) groups → AllBytes (divisionBytes (map writtenGroup groups))
+unfolding divisionBytes flatMap groupBytes writtenGroup pieceOf
+groups-bytes [] h = below-nil 256
+groups-bytes (ws ∷ groups) h =
+    below-append (groupBytes (writtenGroup ws)) _
+    (below-cons _ _ (bits-byte _ ws)
+    (below-cons _ _ (bits-byte _ ws) (below-cons _ _ (bits-byte _ ws) (below-cons _ _ (bits-byte _ ws) (pieces-bytes ws (h .0))))))
+    (groups-bytes groups (h .1))
+
+nSection-bytes : (groups : List (List Written)) → AllBytes (writtenNSection (map writtenGroup groups))
+unfolding writtenNSection writtenGroup
+nSection-bytes [] = below-nil 256
+nSection-bytes (ws ∷ groups) = below-cons _ _ (bits-byte _ ws) (nSection-bytes groups)
+
+-- What is known of the sections that are written.
+pub record SectionsSmall (bases : ℕ) (reference : List ℕ) (reads : List (List ℕ)) (candidates : List Candidate) : Type 0 where
+  pub dna-size : length (divisionBytes (writtenDivision bases reference reads candidates)) < 2 ^ 32
+  pub dna-bytes : AllBytes (divisionBytes (writtenDivision bases reference reads candidates))
+  pub n-size : length (writtenNSection (writtenDivision bases reference reads candidates)) ≡ groupCount (length reads)
+  pub n-bytes : AllBytes (writtenNSection (writtenDivision bases reference reads candidates))
+
+pub sections-small : (bases : ℕ) (reference : List ℕ) (reads : List (List ℕ)) (candidates : List Candidate) → WrittenReads reads candidates
+    → SectionsSmall bases reference reads candidates
+unfolding writtenDivision lettersOf groupCount writtenNSection
+sections-small bases reference reads candidates r =
+    let ws : List Written = writtenFrom bases reference 0 reads candidates in
+    let meet : AllMeet reference reads ws = all-meet bases reference 0 reads candidates (r .counted) (r .below) (r .fits) in
+    let groups : List (List Written) = inGroups ws in
+    let small : All (All Small) groups = all-inGroups Small ws (all-small reference reads ws meet) in
+    let whole : flatten groups ≡ ws = flatten-inGroups ws in
+    let many : length ws ≡ length reads = meet-count reference reads ws meet in
+    let count : length groups ≡ groupCount (length ws) = length-inGroups ws in
+    record {
+      dna-size =
+          omega (
+            arith,
+            groups-length groups small,
+            ap lettersOf whole,
+            ap length whole,
+            letters-total reference reads ws meet,
+            r .few,
+            r .small,
+          );
+      dna-bytes = groups-bytes groups small;
+      n-size = length-map (map writtenGroup groups) _ ∙ length-map groups writtenGroup ∙ count ∙ ap groupCount many;
+      n-bytes = nSection-bytes groups;
+    }
