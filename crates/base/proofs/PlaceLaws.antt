@@ -4,8 +4,8 @@ use Prim.Native.Nat.{ℕ, _+_, _-_, _≤_, _<_}
 use native.Mathlib.Nat.{not-suc-le-zero, zero-add}
 use native.Mathlib.Omega.{arith}
 use mathlib.Core.List.{List, [], _∷_, _++_}
-use lib.ListN.{length, getD, take, length-append, List·getD-append}
-use lib.Seq.{getD-append-add, getD-take, length-take-le, ext-getD}
+use lib.ListN.{length, getD, take, drop, length-append, length-drop, List·getD-append}
+use lib.Seq.{getD-append-add, getD-take, getD-drop, length-take-le, ext-getD}
 use Rattle.base.specs.Place.{At}
 use Rattle.base.proofs.ListLaws.{by-order}
 
@@ -89,3 +89,11 @@ at-cons {list} {i} x {xs} e h a =
       same = λ k l. let z : k ≡ 0 = omega arith in rw z (ap (λ (m : ℕ). getD list m 0) (omega arith) ∙ e);
     })
     a
+
+-- What stands at a place is cut out there.
+pub at-part : {list : List ℕ} {i : ℕ} (part : List ℕ) → At list i part → take (length part) (drop i list) ≡ part
+at-part {list} {i} part a =
+    let room : length part ≤ length (drop i list) = omega (arith, a .fits, length-drop i list) in
+    ext-getD 0 _ part (length-take-le (length part) (drop i list) room) (λ k h.
+    let low : k < length part = omega (arith, length-take-le (length part) (drop i list) room) in
+    getD-take (length part) (drop i list) k 0 low ∙ getD-drop i list k 0 ∙ a .same k low)

@@ -3,6 +3,7 @@ pub mod SumsAnsweredHold
 pub mod OffsetLaws
 pub mod EntryLaws
 pub mod SizeLaws
+pub mod SizeBytesLaws
 pub mod VarintLaws
 pub mod FieldLaws
 pub mod SizesFind

@@ -15,3 +15,4 @@ pub mod WrittenDivision
 pub mod WrittenSizes
 pub mod WrittenBound
 pub mod WrittenBlock
+pub mod WrittenHeader

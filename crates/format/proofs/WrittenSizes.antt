@@ -26,7 +26,7 @@ use Rattle.dna.specs.Sizes.{
 }
 use Rattle.format.specs.FixedRule.{storedFrom, allEqual, writtenSizes}
 
-fit-from : (has : Bool) (previous : ℕ) (lengths : List ℕ) → All StoredFits (storedFrom has previous lengths)
+pub fit-from : (has : Bool) (previous : ℕ) (lengths : List ℕ) → All StoredFits (storedFrom has previous lengths)
 unfolding storedFrom
 fit-from has previous [] = tt
 fit-from has previous (size ∷ lengths) = (
