@@ -16,3 +16,4 @@ pub mod WrittenSizes
 pub mod WrittenBound
 pub mod WrittenBlock
 pub mod WrittenHeader
+pub mod WrittenWellFormed
