@@ -97,7 +97,7 @@ all-inGroups {A} P =
 
 -- ---- Sizes of groups
 
-map-build {ℓ κ} : {A : Type ℓ} {B : Type κ} (f : A → B) (n : ℕ) (g : ℕ → A) → map f (build n g) ≡ build n (λ k. f (g k))
+pub map-build {ℓ κ} : {A : Type ℓ} {B : Type κ} (f : A → B) (n : ℕ) (g : ℕ → A) → map f (build n g) ≡ build n (λ k. f (g k))
 unfolding build
 map-build f zero g = refl
 map-build f (suc n) g = ap (λ (rest : List _). f (g zero) ∷ rest) (map-build f n (λ k. g (suc k)))

@@ -1,6 +1,6 @@
 -- Demand 3: judging files. Assumes nothing.
 pub mod Blocks
-mod Prefixes
+pub mod Prefixes
 use mathlib.Core.Path.{_≡_, refl, sym, ap, ap₂, _∙_, subst}
 use Prim.Native.Nat.{ℕ, _≤_}
 use native.Mathlib.Omega.{arith}

@@ -17,3 +17,4 @@ pub mod WrittenBound
 pub mod WrittenBlock
 pub mod WrittenHeader
 pub mod WrittenWellFormed
+pub mod WritesBlocks

@@ -1,0 +1,180 @@
+-- Reads and the buffers that lend them: each gives the other. Assumes nothing.
+use mathlib.Core.Path.{_≡_, refl, sym, ap, ap₂, _∙_, subst}
+use Prim.Native.Nat.{ℕ, zero, suc, _+_, _-_, _*_, _^_, _≤_, _<_}
+use native.Mathlib.Omega.{arith}
+use mathlib.Core.Bool.{Bool, true, false, cond, not, _||_}
+use mathlib.Core.List.{List, [], _∷_, _++_, map, flatten, append-assoc}
+use lib.ListN.{length, getD, take, drop, length-append, length-map, length-drop, take-append-drop}
+use lib.Seq.{length-take-le}
+use lib.Dec.{ltb, eqb}
+use borrow.Author.Tests.{eqb-true, eqb-false, ltb-false}
+use Rattle.base.specs.Lists.{build, part, any, member, indexOf, total, placesFrom, stepsFrom, All, Below}
+use Rattle.base.proofs.ListLaws.{by-test, length-build, build-cong, all-build, below-at, below-nil, below-cons}
+use Rattle.base.proofs.GroupLaws.{map-build, length-flatten}
+use Rattle.base.proofs.PlaceLaws.{at-middle, at-part}
+use Rattle.base.proofs.Tests.{absurd-test, or-neither, neither-or, not-false, true-not, any-append}
+use Rattle.dna.specs.Reference.{alphabet, letterOfCode}
+use Rattle.dna.specs.Sizes.{lengthInvalid}
+use Rattle.format.specs.FixedRule.{Candidate, codeOfLetter}
+use Rattle.format.specs.EncodeAnswer.{EncodeInput, readsOfInput, candidatesOf}
+use Rattle.format.specs.Demands.{LentFits, Writable, codesOf}
+use Rattle.format.proofs.WrittenRecord.{CandidateFits}
+use Rattle.format.proofs.WrittenBlock.{WrittenReads}
+use Rattle.format.proofs.WrittenWellFormed.{RuleFits}
+
+-- ---- Letters and codes
+
+-- A letter of the alphabet has a code below 5, which gives it back.
+pub code-back : (letter : ℕ) → member letter alphabet ≡ true → (codeOfLetter letter < 5) × (letterOfCode (codeOfLetter letter) ≡ letter)
+unfolding member any codeOfLetter indexOf letterOfCode
+code-back letter h =
+    by-test (eqb 65 letter) (λ a. rw a (omega arith, eqb-true 65 letter a))
+    (λ a.
+    by-test (eqb 67 letter) (λ c. rw (a, c) (omega arith, eqb-true 67 letter c))
+    (λ c.
+    by-test (eqb 71 letter) (λ g. rw (a, c, g) (omega arith, eqb-true 71 letter g))
+    (λ g.
+    by-test (eqb 84 letter) (λ t. rw (a, c, g, t) (omega arith, eqb-true 84 letter t))
+    (λ t.
+    by-test (eqb 78 letter) (λ n. rw (a, c, g, t, n) (omega arith, eqb-true 78 letter n))
+    (λ n.
+    absurd-test (sym h ∙ neither-or _ _ a (neither-or _ _ c (neither-or _ _ g (neither-or _ _ t (neither-or _ _ n refl))))))))))
+
+read-below : (read : List ℕ) → All (λ letter. member letter alphabet ≡ true) read → Below 5 (map codeOfLetter read)
+read-below [] h = below-nil 5
+read-below (letter ∷ read) h = below-cons _ _ (code-back letter (h .0) .0) (read-below read (h .1))
+
+reads-below : (reads : List (List ℕ)) → All (λ read. All (λ letter. member letter alphabet ≡ true) read) reads → All (Below 5) (codesOf reads)
+reads-below [] h = tt
+reads-below (read ∷ reads) h = (read-below read (h .0), reads-below reads (h .1))
+
+read-back : (read : List ℕ) → All (λ letter. member letter alphabet ≡ true) read → map letterOfCode (map codeOfLetter read) ≡ read
+read-back [] h = refl
+read-back (letter ∷ read) h = ap₂ _∷_ (code-back letter (h .0) .1) (read-back read (h .1))
+
+-- The codes of reads give back their letters.
+pub reads-back : (reads : List (List ℕ)) → All (λ read. All (λ letter. member letter alphabet ≡ true) read) reads
+    → map (map letterOfCode) (codesOf reads) ≡ reads
+reads-back [] h = refl
+reads-back (read ∷ reads) h = ap₂ _∷_ (read-back read (h .0)) (reads-back reads (h .1))
+
+pub codes-lengths : (reads : List (List ℕ)) → map length (codesOf reads) ≡ map length reads
+codes-lengths [] = refl
+codes-lengths (read ∷ reads) = ap₂ _∷_ (length-map read codeOfLetter) (codes-lengths reads)
+
+-- ---- Ends
+
+pub length-places : (start : ℕ) (steps : List ℕ) → length (placesFrom start steps) ≡ length steps
+unfolding placesFrom
+length-places start [] = refl
+length-places start (step ∷ steps) = ap suc (length-places (start + step) steps)
+
+pub steps-of-places : (start : ℕ) (steps : List ℕ) → stepsFrom start (placesFrom start steps) ≡ steps
+unfolding placesFrom stepsFrom
+steps-of-places start [] = refl
+steps-of-places start (step ∷ steps) =
+    let first : start + step - start ≡ step = omega arith in
+    ap₂ _∷_ first (steps-of-places (start + step) steps)
+
+-- The last end is the sum of the lengths.
+pub last-place : (start : ℕ) (steps : List ℕ) → getD (start ∷ placesFrom start steps) (length steps) 0 ≡ start + total steps
+unfolding placesFrom total
+last-place start [] = omega arith
+last-place start (step ∷ steps) = last-place (start + step) steps ∙ omega arith
+
+-- Ends that rise by lengths are where those lead.
+pub places-of-steps : (start : ℕ) (places : List ℕ) → any lengthInvalid (stepsFrom start places) ≡ false
+    → placesFrom start (stepsFrom start places) ≡ places
+unfolding placesFrom stepsFrom any lengthInvalid
+places-of-steps start [] h = refl
+places-of-steps start (place ∷ places) h =
+    let parts = or-neither (lengthInvalid (place - start)) _ h in
+    let some : 0 < place - start = (let ne = eqb-false (place - start) 0 (or-neither (eqb (place - start) 0) _ (parts .0) .0) in omega arith) in
+    let back : start + (place - start) ≡ place = omega arith in
+    rw back (ap (λ (rest : List ℕ). place ∷ rest) (places-of-steps place places (parts .1)))
+
+-- ---- Cutting the letters into reads
+
+-- Read i of the letters, by the end before it and its own.
+cut : (letters : List ℕ) (start : ℕ) (ends : List ℕ) (i : ℕ) → List ℕ
+cut letters start ends i = part letters (getD (start ∷ ends) i 0) (getD ends i 0 - getD (start ∷ ends) i 0)
+
+cut-first : (before read rest : List ℕ) → part (before ++ (read ++ rest)) (length before) (length before + length read - length before) ≡ read
+cut-first before read rest =
+    let size : length before + length read - length before ≡ length read = omega arith in
+    ap (λ (n : ℕ). take n (drop (length before) (before ++ (read ++ rest)))) size ∙ at-part read (at-middle before read rest)
+
+cut-reads : (before : List ℕ) (reads : List (List ℕ)) (start : ℕ) → start ≡ length before
+    → build (length reads) (cut (before ++ flatten reads) start (placesFrom start (map length reads))) ≡ reads
+unfolding build flatten placesFrom cut
+cut-reads before [] start e = refl
+cut-reads before (read ∷ reads) start e =
+    let next : start + length read ≡ length (before ++ read) = omega (arith, length-append before read) in
+    let again : build (length reads) (cut ((before ++ read) ++ flatten reads) (start + length read) (placesFrom (start + length read) (map length reads))) ≡ reads
+    = cut-reads (before ++ read) reads (start + length read) next in
+    ap₂ _∷_
+    (ap (λ (n : ℕ). part (before ++ (read ++ flatten reads)) n (n + length read - n)) e ∙ cut-first before read (flatten reads))
+    (ap (λ (whole : List ℕ). build (length reads) (cut whole (start + length read) (placesFrom (start + length read) (map length reads))))
+    (sym (append-assoc before read (flatten reads)))
+    ∙ again)
+
+-- ---- From reads to what the writer takes
+
+pub ends-count : (reads : List (List ℕ)) (input : EncodeInput) → Writable reads input → length (input .ends) ≡ length reads
+ends-count reads input w = ap length (w .ends-are) ∙ length-places 0 (map length reads) ∙ length-map reads length
+
+-- The reads of the input are those that were lent.
+pub reads-of-input : (reads : List (List ℕ)) (input : EncodeInput) → Writable reads input → readsOfInput input ≡ codesOf reads
+unfolding readsOfInput cut
+reads-of-input reads input w =
+    sym (map-build (map codeOfLetter) (length (input .ends)) (cut (input .letters) 0 (input .ends)))
+    ∙ ap (map (map codeOfLetter))
+    (ap (λ (n : ℕ). build n (cut (input .letters) 0 (input .ends))) (ends-count reads input w)
+    ∙ ap₂ (λ (letters ends : List ℕ). build (length reads) (cut letters 0 ends)) (w .letters-are) (w .ends-are)
+    ∙ cut-reads [] reads 0 refl)
+
+pub all-valid : (reads : List (List ℕ)) → All (λ read. lengthInvalid (length read) ≡ false) reads → any lengthInvalid (map length reads) ≡ false
+unfolding any
+all-valid [] h = refl
+all-valid (read ∷ reads) h = neither-or _ _ (h .0) (all-valid reads (h .1))
+
+total-small : (reads : List (List ℕ)) (input : EncodeInput) → LentFits input → Writable reads input → total (map length reads) < 2 ^ 32
+total-small reads input lent w =
+    let lengths : List ℕ = map length reads in
+    let last : getD (0 ∷ placesFrom 0 lengths) (length lengths) 0 ≡ 0 + total lengths = last-place 0 lengths in
+    let small : (k : ℕ) → getD (placesFrom 0 lengths) k 0 < 2 ^ 32
+    = λ k. subst (λ (ends : List ℕ). getD ends k 0 < 2 ^ 32) (w .ends-are) (below-at (input .ends) (omega arith) (lent .ends) k) in
+    let go : (n : ℕ) → getD (0 ∷ placesFrom 0 lengths) n 0 < 2 ^ 32 = λ n. elim n [ zero ↦ omega arith | suc k ↦ small k ] in
+    omega (arith, go (length lengths))
+
+candidates-fit : (input : EncodeInput) → LentFits input → All CandidateFits (candidatesOf input)
+unfolding candidatesOf
+candidates-fit input lent =
+    all-build CandidateFits (length (input .ends)) _ (λ k h.
+    record {
+      position = below-at (input .positions) (omega arith) (lent .positions) k;
+      left = below-at (input .lefts) (omega arith) (lent .lefts) k;
+      right = below-at (input .rights) (omega arith) (lent .rights) k;
+    })
+
+candidates-count : (input : EncodeInput) → length (candidatesOf input) ≡ length (input .ends)
+unfolding candidatesOf
+candidates-count input = length-build (length (input .ends)) _
+
+-- What is lent fits the rule.
+pub rule-fits : (reads : List (List ℕ)) (input : EncodeInput) → LentFits input → Writable reads input
+    → RuleFits (input .id) (input .time) (codesOf reads) (candidatesOf input)
+rule-fits reads input lent w =
+    let many : length (codesOf reads) ≡ length reads = length-map reads (map codeOfLetter) in
+    record {
+      reads-fit = record {
+        few = omega (arith, w .few);
+        valid = ap (any lengthInvalid) (codes-lengths reads) ∙ all-valid reads (w .lengths);
+        below = reads-below reads (w .letters);
+        counted = candidates-count input ∙ ends-count reads input w ∙ sym many;
+        fits = candidates-fit input lent;
+        small = subst (λ (l : List ℕ). total l < 2 ^ 32) (sym (codes-lengths reads)) (total-small reads input lent w);
+      };
+      id-fits = lent .id;
+      time-fits = lent .time;
+    }
