@@ -9,3 +9,5 @@ pub mod BitLaws
 pub mod PasteLaws
 pub mod PaddingLaws
 pub mod PackedPasteLaws
+pub mod ShiftLaws
+pub mod GroupSizeLaws
