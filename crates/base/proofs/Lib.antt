@@ -13,3 +13,5 @@ pub mod FilledLaws
 pub mod SignedLaws
 pub mod FaultLaws
 pub mod SumLaws
+pub mod ShiftLaws
+pub mod GroupSizeLaws
