@@ -8,10 +8,20 @@ use native.Mathlib.Omega.{arith}
 use lib.ListN.{length}
 use lib.Dec.{ltb, eqb}
 use borrow.Author.Tests.{lt-ltb, le-ltb, eq-eqb, ne-eqb, eqb-true, ltb-false}
-use Rattle.cases.specs.CaseFile.{caseHeaderLength, caseFields, caseSize, caseAnswer}
+use Rattle.base.specs.Numbers.{le}
+use Rattle.cases.specs.CaseFile.{
+  fileHeaderLength,
+  fileMagic,
+  countAnswer,
+  caseHeaderLength,
+  caseFields,
+  caseSize,
+  caseAnswer,
+}
 use Rattle.cases.specs.declared.case_file.CaseHeader.{CaseHeader}
 use Rattle.cases.specs.declared.case_file.CaseRead.{CaseRead}
 use Rattle.cases.specs.declared.case_file.CaseRead.the-variants as case
+use Rattle.cases.specs.declared.case_file.CountRead.the-variants as count
 
 module _ (bytes : List ℕ) (header : CaseHeader) where
   -- What is left to judge, once the header is there.
@@ -66,3 +76,19 @@ found-length bytes header e =
     let enough : size ≤ length bytes = ltb-false _ _ (passed .2) in
     let within : caseFields bytes .length ≤ length bytes = omega arith in
     subst (λ (fields : CaseHeader). fields .length ≤ length bytes) (passed .0) within
+
+-- Which test led to a number of cases.
+test-passed : (short magic : Bool) (stated number : ℕ)
+    → cond short count.Bad (cond magic (count.Found stated) count.Bad) ≡ count.Found number
+    → short ≡ false
+test-passed true magic stated number e = let z : _≡_ {A = ℕ} 0 1 = cc in absurd (omega arith)
+test-passed false magic stated number e = refl
+
+-- A file that states its number of cases has the header of a case file.
+pub counted-length : (file : List ℕ) (number : ℕ) → countAnswer file ≡ count.Found number
+    → fileHeaderLength ≤ length file
+unfolding countAnswer
+counted-length file number e =
+    ltb-false (length file) fileHeaderLength
+    (test-passed (ltb (length file) fileHeaderLength) (eqb (le 8 file 0) fileMagic) (le 4 file 8)
+    number e)
