@@ -8,7 +8,6 @@ ghost use Prim.Native.Nat.{_≤_, _<_, _^_};
 ghost use lib.ListN.{length};
 ghost use Rattle.base.specs.Lists.{part};
 ghost use Rattle.cases.specs.CaseFile.{
-  fileHeaderLength,
   caseHeaderLength,
   countAnswer,
   caseFields,

@@ -1,6 +1,6 @@
 // FNV-1a of 64 bits. The prime is 2 ^ 40 + 435.
 ghost use mathlib.Core.Path.{_≡_};
-ghost use Prim.Native.Nat.{_*_, _%_, _^_, _<_};
+ghost use Prim.Native.Nat.{_*_, _%_, _^_};
 ghost use Rattle.base.specs.Numbers.{leBytes};
 ghost use Rattle.cases.specs.Hash.{hashStart, hashPrime, hashStep, hashFrom};
 
