@@ -1,18 +1,24 @@
 # make run: lists the shipped sample. make test: the gate; it needs only the Rattle toolchain.
 # make second: the tests of the second implementation; it needs cargo.
+# make corpus: makes its cases in crates/corpus again (rust/second/CORPUS.md); it needs cargo.
 # make bench: measures the writers of a stretch (docs/BENCHMARK.md); it needs cargo, and x86-64.
-.PHONY: run test second bench
+.PHONY: run test second corpus bench
 run:
 	@echo "make run: the listing program is not part of this version yet; 'make test' checks what is" >&2; exit 2
 
 test:
 	@bash .ci/run
 
-second bench: export CARGO_TARGET_DIR ?= $(CURDIR)/target/cargo
+second corpus bench: export CARGO_TARGET_DIR ?= $(CURDIR)/target/cargo
 second:
 	@command -v cargo >/dev/null 2>&1 \
 	  || { echo "second: Rust is missing: there is no command 'cargo' on the PATH" >&2; exit 2; }
 	@cargo test --offline --manifest-path rust/second/Cargo.toml
+
+corpus:
+	@command -v cargo >/dev/null 2>&1 \
+	  || { echo "corpus: Rust is missing: there is no command 'cargo' on the PATH" >&2; exit 2; }
+	@cargo run --release --quiet --offline --manifest-path rust/second/Cargo.toml --bin make_corpus -- crates/corpus
 
 bench:
 	@command -v rt >/dev/null 2>&1 \

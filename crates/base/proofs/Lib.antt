@@ -14,3 +14,5 @@ pub mod SignedLaws
 pub mod FaultLaws
 pub mod SumLaws
 pub mod PlacesLaws
+pub mod ShiftLaws
+pub mod GroupSizeLaws

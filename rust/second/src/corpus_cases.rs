@@ -1,4 +1,4 @@
-//! The case files of the corpus, in order.
+//! The case files of the corpus, in order, and where they stand.
 
 use crate::cases_encoding::*;
 use crate::cases_reading::*;
@@ -15,4 +15,26 @@ pub fn corpus() -> Vec<CaseFile> {
         CaseFile { name: "decode_large", cases: decode_large_cases() },
         CaseFile { name: "encode_large", cases: encode_large_cases() },
     ]
+}
+
+/// The case files that the program `corpus` runs. Adding a name here moves its
+/// text into the program's expected output.
+pub const RUN: [&str; 2] = ["sections", "lengths"];
+
+/// The corpus as files of the program's crate, by their paths in it. In `data`
+/// stand all case files, and beside them the texts of those that are not run;
+/// the texts of those that are run make the file `stdout`.
+pub fn corpus_files() -> Vec<(String, Vec<u8>)> {
+    let mut files = Vec::new();
+    let mut stdout = String::new();
+    for file in corpus() {
+        files.push((format!("data/{}.bin", file.name), file.bytes()));
+        if RUN.contains(&file.name) {
+            stdout.push_str(&file.text());
+        } else {
+            files.push((format!("data/{}.txt", file.name), file.text().into_bytes()));
+        }
+    }
+    files.push(("stdout".to_string(), stdout.into_bytes()));
+    files
 }

@@ -44,34 +44,45 @@ fn wrong_arguments() {
     assert_eq!(run(SHOW, &[MAKE]).status.code(), Some(1));
 }
 
+/// The crate of the program that runs the cases.
+fn crate_directory() -> PathBuf {
+    Path::new(env!("CARGO_MANIFEST_DIR")).join("../../crates/corpus")
+}
+
+/// The names and contents of a directory's files.
+fn files(path: &Path) -> Vec<(String, Vec<u8>)> {
+    let mut files: Vec<(String, Vec<u8>)> = fs::read_dir(path)
+        .unwrap()
+        .map(|entry| entry.unwrap())
+        .filter(|entry| entry.file_type().unwrap().is_file())
+        .map(|entry| (entry.file_name().into_string().unwrap(), fs::read(entry.path()).unwrap()))
+        .collect();
+    files.sort();
+    files
+}
+
 #[test]
 fn making_the_corpus_twice() {
     let made = directory("making");
-    let files = |path: &Path| {
-        let mut files: Vec<(String, Vec<u8>)> = fs::read_dir(path)
-            .unwrap()
-            .map(|entry| entry.unwrap())
-            .map(|entry| {
-                (entry.file_name().into_string().unwrap(), fs::read(entry.path()).unwrap())
-            })
-            .collect();
-        files.sort();
-        files
-    };
-    assert!(run(MAKE, &[made.to_str().unwrap()]).status.success());
-    let first = files(&made);
-    assert!(run(MAKE, &[made.to_str().unwrap()]).status.success());
-    assert!(files(&made) == first);
+    let data = made.join("data");
+    let make = || assert!(run(MAKE, &[made.to_str().unwrap()]).status.success());
+    make();
+    let first = (files(&made), files(&data));
+    fs::write(data.join("sections.txt"), "from before sections were run").unwrap();
+    make();
+    assert!((files(&made), files(&data)) == first);
     // Nothing else is left, and it is what the tree holds.
-    assert!(first == files(&Path::new(env!("CARGO_MANIFEST_DIR")).join("corpus")));
+    assert!(first.1 == files(&crate_directory().join("data")));
+    let stdout = fs::read(crate_directory().join("stdout")).unwrap();
+    assert!(first.0 == [("stdout".to_string(), stdout)]);
 }
 
 #[test]
 fn showing_gives_the_expected_text() {
-    let corpus = Path::new(env!("CARGO_MANIFEST_DIR")).join("corpus");
-    let shown = run(SHOW, &[corpus.join("lengths.bin").to_str().unwrap()]).stdout;
+    let data = crate_directory().join("data");
+    let shown = run(SHOW, &[data.join("validate.bin").to_str().unwrap()]).stdout;
     let shown = String::from_utf8(shown).unwrap();
     let lines: Vec<&str> = shown.lines().filter(|line| !line.starts_with("# ")).collect();
-    let text = fs::read_to_string(corpus.join("lengths.txt")).unwrap();
+    let text = fs::read_to_string(data.join("validate.txt")).unwrap();
     assert_eq!(lines, text.lines().collect::<Vec<_>>());
 }

@@ -4,35 +4,49 @@
 
 use second::blocks::read_block;
 use second::corpus::*;
-use second::corpus_cases::corpus;
+use second::corpus_cases::{corpus, corpus_files, RUN};
 use second::records::Kind;
 use second::reference::Reference;
 use std::collections::BTreeSet;
-use std::path::Path;
+use std::path::{Path, PathBuf};
+
+/// The crate of the program that runs the cases.
+fn crate_directory() -> PathBuf {
+    Path::new(env!("CARGO_MANIFEST_DIR")).join("../../crates/corpus")
+}
 
 #[test]
 fn the_tree_holds_what_is_made() {
-    let directory = Path::new(env!("CARGO_MANIFEST_DIR")).join("corpus");
-    let mut names: Vec<String> = Vec::new();
     let mut whole = 0;
-    for file in corpus() {
-        let (bytes, text) = (file.bytes(), file.text());
-        let same = std::fs::read(directory.join(format!("{}.bin", file.name))).unwrap() == bytes;
-        assert!(same, "{}.bin differs: make the corpus again", file.name);
-        let read = std::fs::read_to_string(directory.join(format!("{}.txt", file.name))).unwrap();
-        assert!(read == text, "{}.txt differs: make the corpus again", file.name);
-        assert!(bytes.len() < 256 * 1024 && text.len() < 256 * 1024, "{}", file.name);
-        whole += bytes.len() + text.len();
-        names.extend([format!("{}.bin", file.name), format!("{}.txt", file.name)]);
+    let mut names: Vec<String> = Vec::new();
+    for (path, bytes) in corpus_files() {
+        let read = std::fs::read(crate_directory().join(&path)).unwrap();
+        assert!(read == bytes, "{path} differs: make the corpus again");
+        assert!(bytes.len() < 256 * 1024, "{path}");
+        whole += bytes.len();
+        names.extend(path.strip_prefix("data/").map(str::to_string));
     }
     assert!(whole < 1024 * 1024, "{whole}");
-    let mut found: Vec<String> = std::fs::read_dir(&directory)
+    let mut found: Vec<String> = std::fs::read_dir(crate_directory().join("data"))
         .unwrap()
         .map(|entry| entry.unwrap().file_name().into_string().unwrap())
         .collect();
     names.sort();
     found.sort();
     assert_eq!(found, names);
+}
+
+/// What the program must write: the texts of the case files that it runs, one
+/// after the other.
+#[test]
+fn stdout_is_the_texts_of_what_is_run() {
+    let texts: String = corpus()
+        .into_iter()
+        .filter(|file| RUN.contains(&file.name))
+        .map(|file| file.text())
+        .collect();
+    assert!(std::fs::read_to_string(crate_directory().join("stdout")).unwrap() == texts);
+    assert!(RUN.iter().all(|name| corpus().iter().any(|file| file.name == *name)));
 }
 
 #[test]

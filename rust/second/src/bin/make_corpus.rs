@@ -1,7 +1,7 @@
-//! Writes the corpus into a directory: one `.bin` and one `.txt` for each
-//! case file. Everything is made and written aside first, then renamed.
+//! Writes the corpus into the directory of the crate `corpus`. Everything is
+//! made and written aside first, then renamed.
 
-use second::corpus_cases::corpus;
+use second::corpus_cases::{corpus_files, RUN};
 use std::fs;
 use std::path::{Path, PathBuf};
 use std::process::ExitCode;
@@ -28,11 +28,10 @@ fn main() -> ExitCode {
 }
 
 fn write_all(directory: &Path) -> Result<(), String> {
-    let mut files: Vec<(String, Vec<u8>)> = Vec::new();
-    for case_file in corpus() {
-        files.push((format!("{}.bin", case_file.name), case_file.bytes()));
-        files.push((format!("{}.txt", case_file.name), case_file.text().into_bytes()));
-    }
+    let files = corpus_files();
+    let data = directory.join("data");
+    fs::create_dir_all(&data)
+        .map_err(|error| format!("cannot make {}: {error}", data.display()))?;
     let aside = |name: &str| directory.join(format!("{name}.new"));
     let mut written: Vec<PathBuf> = Vec::new();
     for (name, bytes) in &files {
@@ -49,6 +48,10 @@ fn write_all(directory: &Path) -> Result<(), String> {
         fs::rename(aside(name), &path)
             .map_err(|error| format!("cannot rename to {}: {error}", path.display()))?;
         println!("{name} {} bytes", bytes.len());
+    }
+    // A text of its own, from before its case file was run.
+    for name in RUN {
+        let _ = fs::remove_file(data.join(format!("{name}.txt")));
     }
     Ok(())
 }

@@ -1,0 +1,9 @@
+pub mod Collected
+pub mod GroupSteps
+pub mod CursorLaws
+pub mod WordLaws
+pub mod StepLaws
+pub mod NextLaws
+pub mod SignLaws
+pub mod FixedLaws
+pub mod GivenLaws

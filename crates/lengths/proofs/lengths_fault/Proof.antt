@@ -1,0 +1,75 @@
+use mathlib.Core.Path.{_≡_, sym, ap, _∙_}
+use Prim.Native.Nat.{ℕ}
+use mir.Val.{toZ, ofZ}
+use mir.ValLaws.{toZ-ofZ}
+use mir.Syntax.{w32}
+use Rattle.base.specs.Numbers.{nonNegative}
+use Rattle.lengths.specs.Given.{lengthsGiven, lengthsFound, lengthsSum}
+use Rattle.lengths.proofs.GivenLaws.{fault-lengths, fault-none, fault-size}
+use borrow.Author.Needs.{needs}
+use Rattle.lengths.proofs.lengths_fault.Statement.{statement}
+use Rattle.lengths.proofs.lengths_fault.Tie as tie
+
+non-negative-requires : tie.Need-non-negative-requires
+non-negative-requires c κs = search needs
+
+lengths-sum-requires : tie.Need-lengths-sum-requires
+lengths-sum-requires c κs = search needs
+
+enum-known-sum : tie.Need-enum-known-sum
+enum-known-sum c = search needs
+
+enum-told : tie.Need-enum-told
+enum-told c = search needs
+
+returns : tie.Need-returns
+returns c =
+    let q : toZ w32 (ofZ w32 (c .before .before .before .before .before .args .each)) ≡ c .before .before .before .before .before .args .each = toZ-ofZ w32 (c .before .before .before .before .before .args .each) (c .before .before .before .before .before .fits .each) in
+    let given : lengthsSum
+    (lengthsFound (lengthsGiven (c .before .before .before .before .before .args .fixed) (nonNegative (c .before .before .before .before .before .args .each)) (c .before .before .before .before .before .args .reads) (c .before .before .before .before .before .args .section .now)))
+    ≡ c .before .before .lengths-sum .result =
+    ap
+    (λ (n : ℕ). lengthsSum (lengthsFound (lengthsGiven (c .before .before .before .before .before .args .fixed) n (c .before .before .before .before .before .args .reads) (c .before .before .before .before .before .args .section .now))))
+    (sym (c .before .before .before .non-negative .ensures ∙ ap nonNegative q))
+    ∙ sym (c .before .before .lengths-sum .ensures) in
+    sym (fault-lengths (c .before .before .before .before .before .args .raw) _ (given ∙ c .enum-told .given .1))
+
+wide64-requires : tie.Need-wide64-requires
+wide64-requires c κs = search needs
+
+returns-2 : tie.Need-returns-2
+returns-2 c =
+    let q : toZ w32 (ofZ w32 (c .before .before .before .before .before .before .before .before .args .each)) ≡ c .before .before .before .before .before .before .before .before .args .each = toZ-ofZ w32 (c .before .before .before .before .before .before .before .before .args .each) (c .before .before .before .before .before .before .before .before .fits .each) in
+    let given : lengthsSum
+    (lengthsFound (lengthsGiven (c .before .before .before .before .before .before .before .before .args .fixed) (nonNegative (c .before .before .before .before .before .before .before .before .args .each)) (c .before .before .before .before .before .before .before .before .args .reads) (c .before .before .before .before .before .before .before .before .args .section .now)))
+    ≡ c .before .before .before .before .before .lengths-sum .result =
+    ap
+    (λ (n : ℕ). lengthsSum (lengthsFound (lengthsGiven (c .before .before .before .before .before .before .before .before .args .fixed) n (c .before .before .before .before .before .before .before .before .args .reads) (c .before .before .before .before .before .before .before .before .args .section .now))))
+    (sym (c .before .before .before .before .before .before .non-negative .ensures ∙ ap nonNegative q))
+    ∙ sym (c .before .before .before .before .before .lengths-sum .ensures) in
+    sym (fault-none (c .before .before .before .before .before .before .before .before .args .raw) _ _ (given ∙ c .before .before .before .sum .given .1) (sym (c .before .wide64 .ensures .0) ∙ c .if1 .taken))
+
+returns-3 : tie.Need-returns-3
+returns-3 c =
+    let q : toZ w32 (ofZ w32 (c .before .before .before .before .before .before .before .before .args .each)) ≡ c .before .before .before .before .before .before .before .before .args .each = toZ-ofZ w32 (c .before .before .before .before .before .before .before .before .args .each) (c .before .before .before .before .before .before .before .before .fits .each) in
+    let given : lengthsSum
+    (lengthsFound (lengthsGiven (c .before .before .before .before .before .before .before .before .args .fixed) (nonNegative (c .before .before .before .before .before .before .before .before .args .each)) (c .before .before .before .before .before .before .before .before .args .reads) (c .before .before .before .before .before .before .before .before .args .section .now)))
+    ≡ c .before .before .before .before .before .lengths-sum .result =
+    ap
+    (λ (n : ℕ). lengthsSum (lengthsFound (lengthsGiven (c .before .before .before .before .before .before .before .before .args .fixed) n (c .before .before .before .before .before .before .before .before .args .reads) (c .before .before .before .before .before .before .before .before .args .section .now))))
+    (sym (c .before .before .before .before .before .before .non-negative .ensures ∙ ap nonNegative q))
+    ∙ sym (c .before .before .before .before .before .lengths-sum .ensures) in
+    sym (fault-size (c .before .before .before .before .before .before .before .before .args .raw) _ _ (given ∙ c .before .before .before .sum .given .1) (λ e. c .if1 .left (c .before .wide64 .ensures .0 ∙ e)))
+
+pub lengths-fault-spec : {M : Type 1} → statement M
+lengths-fault-spec =
+    tie.close
+    (tie.spec
+    non-negative-requires
+    lengths-sum-requires
+    enum-known-sum
+    enum-told
+    returns
+    wide64-requires
+    returns-2
+    returns-3)

@@ -1,0 +1,83 @@
+use mathlib.Core.Path.{sym, _∙_}
+use Rattle.lengths.specs.Cursor.{cursorAfter}
+use Rattle.lengths.proofs.StepLaws.{step-fixed, step-unflagged, step-unread, step-read}
+use borrow.Author.Needs.{needs}
+use Rattle.lengths.proofs.next_length.Statement.{statement}
+use Rattle.lengths.proofs.next_length.Tie as tie
+
+length-or-refused-requires : tie.Need-length-or-refused-requires
+length-or-refused-requires c κs = search needs
+
+returns : tie.Need-returns
+returns c =
+    c .length-or-refused .ensures ∙ sym (step-fixed (c .before .before .before .args .section .now) (c .before .before .before .args .cursor) (c .before .if1 .taken))
+
+take-flags-requires : tie.Need-take-flags-requires
+take-flags-requires c κs = search needs
+
+enum-known-flagged : tie.Need-enum-known-flagged
+enum-known-flagged c = search needs
+
+enum-told : tie.Need-enum-told
+enum-told c = search needs
+
+returns-2 : tie.Need-returns-2
+returns-2 c =
+    sym
+    (step-unflagged (c .before .before .before .before .before .args .section .now) (c .before .before .before .before .before .args .cursor) (c .before .before .before .if1 .left)
+    (sym (c .before .before .take-flags .ensures) ∙ c .enum-told .given .1))
+
+read-size-requires : tie.Need-read-size-requires
+read-size-requires c κs = search needs
+
+enum-known-size : tie.Need-enum-known-size
+enum-known-size c = search needs
+
+enum-told-2 : tie.Need-enum-told-2
+enum-told-2 c = search needs
+
+returns-3 : tie.Need-returns-3
+returns-3 c =
+    sym
+    (step-unread (c .before .before .before .before .before .before .before .before .before .args .section .now) (c .before .before .before .before .before .before .before .before .before .args .cursor) (c .before .before .before .before .flagged .given .0 .0) (c .before .before .before .before .before .before .before .if1 .left)
+    (sym (c .before .before .before .before .before .before .take-flags .ensures) ∙ c .before .before .before .before .flagged .given .1) (sym (c .before .before .read-size .ensures) ∙ c .enum-told2 .given .1))
+
+add-t10 : tie.Need-add-t10
+add-t10 c = search needs
+
+mul-t12 : tie.Need-mul-t12
+mul-t12 c = search needs
+
+mul-t14 : tie.Need-mul-t14
+mul-t14 c = search needs
+
+length-or-refused-requires-2 : tie.Need-length-or-refused-requires-2
+length-or-refused-requires-2 c κs = search needs
+
+returns-4 : tie.Need-returns-4
+unfolding cursorAfter
+returns-4 c =
+    c .length-or-refused2 .ensures
+    ∙ sym
+    (step-read (c .before .before .before .before .before .before .before .before .before .before .before .before .before .before .args .section .now) (c .before .before .before .before .before .before .before .before .before .before .before .before .before .before .args .cursor) (c .before .before .before .before .before .before .before .before .before .flagged .given .0 .0) _ _ (c .before .before .before .before .before .before .before .before .before .before .before .before .if1 .left)
+    (sym (c .before .before .before .before .before .before .before .before .before .before .before .take-flags .ensures) ∙ c .before .before .before .before .before .before .before .before .before .flagged .given .1) (sym (c .before .before .before .before .before .before .before .read-size .ensures) ∙ c .before .before .before .before .before .size .given .1))
+
+pub next-length-spec : {M : Type 1} → statement M
+next-length-spec =
+    tie.close
+    (tie.spec
+    length-or-refused-requires
+    returns
+    take-flags-requires
+    enum-known-flagged
+    enum-told
+    returns-2
+    read-size-requires
+    enum-known-size
+    enum-told-2
+    returns-3
+    add-t10
+    mul-t12
+    mul-t14
+    length-or-refused-requires-2
+    returns-4)
