@@ -11,3 +11,5 @@ pub mod PaddingLaws
 pub mod PackedPasteLaws
 pub mod ShiftLaws
 pub mod GroupSizeLaws
+pub mod PastingLaws
+pub mod StepsLaws

@@ -12,3 +12,4 @@ pub mod WalkLaws
 pub mod WalkFinds
 pub mod WalkFound
 pub mod OneDivision
+pub mod SizeBytesLaws

@@ -7,3 +7,5 @@ pub mod NextLaws
 pub mod SignLaws
 pub mod FixedLaws
 pub mod GivenLaws
+pub mod FormLaws
+pub mod WritingLaws

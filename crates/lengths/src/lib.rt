@@ -1,6 +1,6 @@
 // The lengths of a block's reads (refusals 9 and 10): a cursor that gives them read by read, the walk that
-// validates them all, and the writer of a size section. The contracts cite specs/Cursor.antt and
-// specs/Given.antt, and specs/Sizes.antt of dna.
+// validates them all; write.rt has the writer of a size section. The contracts cite specs/Cursor.antt and
+// specs/Given.antt.
 ghost use mathlib.Core.Path.{_≡_};
 ghost use mathlib.Core.Bool.{cond};
 ghost use Prim.Native.Nat.{_+_, _≤_};
@@ -24,6 +24,9 @@ ghost use Rattle.lengths.specs.Cursor.{
   lengthStep,
   cursorEnded,
 };
+
+// Writing a size section.
+pub mod write;
 
 // The most letters that a read may have.
 const MAX_READ_LENGTH: u32 = 100_000;
