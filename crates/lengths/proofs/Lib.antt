@@ -9,3 +9,4 @@ pub mod FixedLaws
 pub mod GivenLaws
 pub mod FormLaws
 pub mod WritingLaws
+pub mod EqualLaws

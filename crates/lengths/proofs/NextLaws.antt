@@ -10,6 +10,7 @@ use mathlib.Core.Option.{Option, none, some}
 use lib.ListN.{length, getD, drop}
 use lib.Seq.{drop-cons}
 use Rattle.base.specs.Lists.{total, AllBytes}
+use Rattle.base.specs.Scan.{found}
 use Rattle.dna.specs.SizesAt.{sizesAnswer}
 use Rattle.lengths.specs.declared.SizeCursor.{SizeCursor}
 use Rattle.lengths.specs.declared.LengthStep.{LengthStep}
@@ -41,6 +42,44 @@ module _ (section : List ℕ) (cursor : SizeCursor) where
       ∙ ap (λ (n : ℕ). consed size (lengthsLeft n section next)) d
 
 -- ---- For a walk that knows the lengths
+
+end-count : (ended : Bool) (lengths : List ℕ) → cond ended (some []) none ≡ some lengths → length lengths ≡ 0
+end-count true lengths e = let is : [] ≡ lengths = cc in sym (ap length is)
+end-count false lengths e = let z : _≡_ {A = ℕ} 0 1 = cc in absurd (omega arith)
+
+consed-count : (size : ℕ) (rest : Option (List ℕ)) (lengths : List ℕ) (n : ℕ)
+    → ((more : List ℕ) → rest ≡ some more → length more ≡ n) → consed size rest ≡ some lengths → length lengths ≡ suc n
+unfolding consed
+consed-count size none lengths n h e = let z : _≡_ {A = ℕ} 0 1 = cc in absurd (omega arith)
+consed-count size (some more) lengths n h e =
+    let is : size ∷ more ≡ lengths = cc in
+    sym (ap length is) ∙ ap suc (h more refl)
+
+step-count : (n : ℕ) (section : List ℕ) (step : LengthStep) (lengths : List ℕ)
+    → ((cursor : SizeCursor) (rest : List ℕ) → lengthsLeft n section cursor ≡ some rest → length rest ≡ n)
+    → onStep step (lengthsLeft n section) ≡ some lengths → length lengths ≡ suc n
+unfolding onStep
+step-count n section steps.Refused lengths ih e = let z : _≡_ {A = ℕ} 0 1 = cc in absurd (omega arith)
+step-count n section (steps.Found size cursor) lengths ih e =
+    consed-count size (lengthsLeft n section cursor) lengths n (ih cursor) e
+
+-- As many lengths as there are reads.
+pub left-count : (n : ℕ) (section : List ℕ) (cursor : SizeCursor) (lengths : List ℕ)
+    → lengthsLeft n section cursor ≡ some lengths → length lengths ≡ n
+unfolding lengthsLeft
+left-count zero section cursor lengths e = end-count (cursorEnded section cursor) lengths e
+left-count (suc n) section cursor lengths e =
+    step-count n section (lengthStep section cursor) lengths (λ next rest. left-count n section next rest) e
+
+-- At the first read of a block: all of its lengths are left.
+pub walk-start : (fixed : Bool) (each n : ℕ) (section lengths : List ℕ) (next : ℕ) → AllBytes section
+    → lengthsGiven fixed each n section ≡ found lengths next
+    → (n ≡ length lengths) × (lengthsLeft n section (firstCursor fixed each) ≡ some lengths)
+unfolding lengthsFound
+walk-start fixed each n section lengths next bytes e =
+    let left : lengthsLeft n section (firstCursor fixed each) ≡ some lengths =
+    lengthsLeft-first fixed each n section bytes ∙ ap lengthsFound e in
+    (sym (left-count n section (firstCursor fixed each) lengths left), left)
 
 consed-some : (size : ℕ) (rest : Option (List ℕ)) (x : ℕ) (xs : List ℕ) → consed size rest ≡ some (x ∷ xs)
     → (size ≡ x) × (rest ≡ some xs)

@@ -23,7 +23,7 @@ use Rattle.lengths.specs.Form.{storedOf, formOf, formBytes, flagTest}
 use Rattle.lengths.proofs.FormLaws.{length-storedOf, bytes-form, part-at}
 
 -- A list that is used up.
-drop-all {ℓ} : {A : Type ℓ} (k : ℕ) (list : List A) → length list ≤ k → drop k list ≡ []
+pub drop-all {ℓ} : {A : Type ℓ} (k : ℕ) (list : List A) → length list ≤ k → drop k list ≡ []
 drop-all zero [] h = refl
 drop-all zero (x ∷ xs) h = absurd (omega arith)
 drop-all (suc k) [] h = refl

@@ -32,7 +32,7 @@ pub mod write;
 const MAX_READ_LENGTH: u32 = 100_000;
 
 // The word that says that another follows.
-const WORD_ESCAPE: u32 = 32768;
+pub const WORD_ESCAPE: u32 = 32768;
 
 // Refusals.
 pub const LENGTHS_INVALID: u32 = 9;

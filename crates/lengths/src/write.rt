@@ -1,6 +1,8 @@
 // Writing a size section from the ends of the reads, which are lent; a length is the difference of two ends.
 // The contracts cite specs/Form.antt, specs/Sizes.antt of dna and specs/Paste.antt of base. Each `requires` is one
 // that encoding has tested before: at most 50,000 reads, and room for the bytes.
+use super::WORD_ESCAPE;
+
 ghost use mathlib.Core.Path.{_≡_};
 ghost use mathlib.Core.Bool.{cond};
 ghost use Prim.Native.Nat.{_+_, _-_, _≤_, _<_, min};
@@ -11,10 +13,8 @@ ghost use Rattle.base.specs.Paste.{pasted};
 ghost use Rattle.dna.specs.Varint16.{varint16Bytes};
 ghost use Rattle.dna.specs.Sizes.{inWords, isSame, storedBytes, flagByte, sizeGroupBytes, sizeSectionBytes};
 ghost use Rattle.format.specs.HeaderFaults.{maxReads};
+ghost use Rattle.format.specs.FixedRule.{allEqual};
 ghost use Rattle.lengths.specs.Form.{storedOf, formOf, formBytes, flagTest, formFlag};
-
-// The word that says that another follows.
-const WORD_ESCAPE: u32 = 32768;
 
 // How a length is stored.
 pub enum SizeForm {
@@ -89,6 +89,24 @@ fn put_group_sizes(ends: &[u32], from: usize, out: &mut [u8], at: usize) -> usiz
     place
 }
 
+// Whether there is a read and all are equally long (flag 0x1).
+pub fn all_equal(ends: &[u32]) -> bool
+    ensures { λ r. ⌜ r ≡ allEqual (stepsFrom 0 (now (ends .entry))) ⌝ }
+{
+    if ends.len() == 0 {
+        return false;
+    }
+    let first = length_at(ends, 0);
+    let mut i: usize = 1;
+    while i < ends.len() {
+        if length_at(ends, i) != first {
+            return false;
+        }
+        i += 1;
+    }
+    true
+}
+
 // ---- One length
 
 // How read i is stored: same bit before byte-size bit before words.
@@ -113,7 +131,7 @@ fn form_length(form: SizeForm) -> usize
     match form {
         SizeForm::Same => return 0,
         SizeForm::InByte(_) => return 1,
-        SizeForm::InWords(size) => return (integers::size32(size) / 32768 + 1) * 2,
+        SizeForm::InWords(size) => return (integers::size32(size / WORD_ESCAPE) + 1) * 2,
     }
 }
 
@@ -142,7 +160,7 @@ fn put_words(size: u32, out: &mut [u8], at: usize) -> usize
     let mut left = size;
     let mut place = at;
     while WORD_ESCAPE <= left {
-        integers::put_u16(out, place, 32768);
+        integers::put_u16(out, place, WORD_ESCAPE as u16);
         place += 2;
         left -= WORD_ESCAPE;
     }

@@ -23,6 +23,9 @@ loop-holds : tie.Need-loop-holds Inv-loop μ-loop
 loop-holds c = (pasting-start (c .before .args .out .now) (c .before .args .at) (varint16Bytes (c .before .args .size)) (c .before .pre), refl)
 
 -- src/write.rt:145:9
+cast-put-u16 : tie.Need-cast-put-u16 Inv-loop μ-loop
+cast-put-u16 c = search needs
+
 put-u16-requires : tie.Need-put-u16-requires Inv-loop μ-loop
 put-u16-requires c κs = words-room (c .before .before .loop .left) (c .before .before .loop .inv .0)
 
@@ -42,8 +45,8 @@ loop-again c = (
 )
 
 -- src/write.rt:149:35
-cast-put-u16 : tie.Need-cast-put-u16 Inv-loop μ-loop
-cast-put-u16 c = search needs
+cast-put-u16-2 : tie.Need-cast-put-u16-2 Inv-loop μ-loop
+cast-put-u16-2 c = search needs
 
 -- src/write.rt:149:5
 put-u16-requires-2 : tie.Need-put-u16-requires-2 Inv-loop μ-loop
@@ -68,11 +71,12 @@ put-words-spec =
     Inv-loop
     μ-loop
     loop-holds
+    cast-put-u16
     put-u16-requires
     add-place
     loop-less
     loop-again
-    cast-put-u16
+    cast-put-u16-2
     put-u16-requires-2
     add-result
     same-length
