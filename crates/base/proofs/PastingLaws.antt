@@ -1,4 +1,5 @@
--- Writing a list part by part: what is left to be written, and what the buffer becomes. Assumes nothing.
+-- Writing a list part by part: what is left to be written, and what the buffer becomes. Assumes
+-- nothing.
 use mathlib.Core.Path.{_≡_, refl, sym, ap, ap₂, _∙_}
 use Prim.Native.Nat.{ℕ, _+_, _≤_}
 use native.Mathlib.Omega.{arith}
@@ -8,7 +9,8 @@ use Rattle.base.specs.Paste.{pasted}
 use Rattle.base.proofs.PasteLaws.{pasted-nil, pasted-append, length-pasted}
 
 -- Writing `left` from `place` on makes the buffer `goal` and stops at `end`.
-pub record Pasting (goal : List ℕ) (end : ℕ) (out : List ℕ) (place : ℕ) (left : List ℕ) : Type 0 where
+pub record Pasting (goal : List ℕ) (end : ℕ) (out : List ℕ) (place : ℕ)
+    (left : List ℕ) : Type 0 where
   pub becomes : pasted out place left ≡ goal
   pub ends : place + length left ≡ end
   pub room : place + length left ≤ length out
@@ -17,7 +19,8 @@ pub pasting-start : (buffer : List ℕ) (at : ℕ) (part : List ℕ) → at + le
     → Pasting (pasted buffer at part) (at + length part) buffer at part
 pasting-start buffer at part fits = record { becomes = refl; ends = refl; room = fits }
 
-module _ {goal : List ℕ} {end : ℕ} {out : List ℕ} {place : ℕ} {left : List ℕ} (writing : Pasting goal end out place left) where
+module _ {goal : List ℕ} {end : ℕ} {out : List ℕ} {place : ℕ} {left : List ℕ}
+    (writing : Pasting goal end out place left) where
   -- The next part fits.
   pub pasting-room : (part rest : List ℕ) → left ≡ part ++ rest → place + length part ≤ length out
   pasting-room part rest split =
@@ -25,7 +28,8 @@ module _ {goal : List ℕ} {end : ℕ} {out : List ℕ} {place : ℕ} {left : Li
       omega (arith, writing .room)
 
   -- It is written.
-  pub pasting-turn : (part rest out′ : List ℕ) (place′ : ℕ) → left ≡ part ++ rest → out′ ≡ pasted out place part
+  pub pasting-turn : (part rest out′ : List ℕ) (place′ : ℕ) → left ≡ part ++ rest
+      → out′ ≡ pasted out place part
       → place′ ≡ place + length part → Pasting goal end out′ place′ rest
   pasting-turn part rest out′ place′ split written there =
       let n : length left ≡ length part + length rest = ap length split ∙ length-append part rest in

@@ -6,7 +6,8 @@ use mathlib.Core.List.{List, [], _∷_}
 use lib.ListN.{length, getD}
 use Rattle.base.specs.Lists.{stepsFrom}
 
-pub length-stepsFrom : (start : ℕ) (places : List ℕ) → length (stepsFrom start places) ≡ length places
+pub length-stepsFrom : (start : ℕ) (places : List ℕ) → length (stepsFrom start places)
+    ≡ length places
 unfolding stepsFrom
 length-stepsFrom start [] = refl
 length-stepsFrom start (place ∷ places) = ap suc (length-stepsFrom place places)
@@ -24,4 +25,5 @@ pub stepsFrom-later : (start : ℕ) (places : List ℕ) (i : ℕ) → suc i < le
 unfolding stepsFrom
 stepsFrom-later start [] i h = absurd (not-suc-le-zero h)
 stepsFrom-later start (place ∷ places) zero h = stepsFrom-first place places (le-of-suc-le-suc h)
-stepsFrom-later start (place ∷ places) (suc i) h = stepsFrom-later place places i (le-of-suc-le-suc h)
+stepsFrom-later start (place ∷ places) (suc i) h =
+    stepsFrom-later place places i (le-of-suc-le-suc h)

@@ -16,7 +16,16 @@ use Rattle.base.proofs.Tests.{absurd-test}
 use Rattle.base.proofs.BitLaws.{cond-small}
 use Rattle.base.proofs.PackedLaws.{byteOf-below, byteOf-cong}
 use Rattle.base.proofs.StepsLaws.{length-stepsFrom, stepsFrom-first, stepsFrom-later}
-use Rattle.dna.specs.Sizes.{StoredSize, same, inByte, inWords, isSame, isInByte, storedBytes, flagByte}
+use Rattle.dna.specs.Sizes.{
+  StoredSize,
+  same,
+  inByte,
+  inWords,
+  isSame,
+  isInByte,
+  storedBytes,
+  flagByte,
+}
 use Rattle.format.specs.FixedRule.{storedFrom}
 use Rattle.lengths.specs.declared.write.SizeForm.the-variants as forms
 use Rattle.lengths.specs.Form.{storedOf, formOf, formBytes, flagTest, formFlag}
@@ -28,7 +37,8 @@ unfoldable pub storedForm : (hasPrevious : Bool) (previous size : ℕ) → Store
 storedForm hasPrevious previous size =
     cond (hasPrevious && eqb size previous) same (cond (ltb size 256) (inByte size) (inWords size))
 
-length-storedFrom : (h : Bool) (previous : ℕ) (lengths : List ℕ) → length (storedFrom h previous lengths) ≡ length lengths
+length-storedFrom : (h : Bool) (previous : ℕ) (lengths : List ℕ)
+    → length (storedFrom h previous lengths) ≡ length lengths
 unfolding storedFrom
 length-storedFrom h previous [] = refl
 length-storedFrom h previous (size ∷ lengths) = ap suc (length-storedFrom true size lengths)
@@ -42,17 +52,23 @@ unfolding storedFrom storedForm
 stored-first h previous [] d some = absurd (not-suc-le-zero some)
 stored-first h previous (size ∷ lengths) d some = refl
 
-stored-later : (h : Bool) (previous : ℕ) (lengths : List ℕ) (i : ℕ) (d : StoredSize) → suc i < length lengths
-    → getD (storedFrom h previous lengths) (suc i) d ≡ storedForm true (getD lengths i 0) (getD lengths (suc i) 0)
+stored-later : (h : Bool) (previous : ℕ) (lengths : List ℕ) (i : ℕ) (d : StoredSize)
+    → suc i < length lengths
+    → getD (storedFrom h previous lengths) (suc i) d ≡ storedForm true (getD lengths i 0)
+    (getD lengths (suc i) 0)
 unfolding storedFrom
 stored-later h previous [] i d some = absurd (not-suc-le-zero some)
-stored-later h previous (size ∷ lengths) zero d some = stored-first true size lengths d (le-of-suc-le-suc some)
-stored-later h previous (size ∷ lengths) (suc i) d some = stored-later true size lengths i d (le-of-suc-le-suc some)
+stored-later h previous (size ∷ lengths) zero d some =
+    stored-first true size lengths d (le-of-suc-le-suc some)
+stored-later h previous (size ∷ lengths) (suc i) d some =
+    stored-later true size lengths i d (le-of-suc-le-suc some)
 
 module _ (ends : List ℕ) where
   -- The first read.
-  pub form-first : 0 < length ends → getD (storedOf ends) 0 (inWords 0) ≡ storedForm false 0 (getD (stepsFrom 0 ends) 0 0)
-  form-first some = stored-first false 0 (stepsFrom 0 ends) (inWords 0) (omega (arith, length-stepsFrom 0 ends))
+  pub form-first : 0 < length ends → getD (storedOf ends) 0 (inWords 0) ≡ storedForm false 0
+      (getD (stepsFrom 0 ends) 0 0)
+  form-first some =
+      stored-first false 0 (stepsFrom 0 ends) (inWords 0) (omega (arith, length-stepsFrom 0 ends))
 
   -- A later one.
   pub form-later : (i : ℕ) → 0 < i → i < length ends
@@ -62,11 +78,13 @@ module _ (ends : List ℕ) where
   form-later (suc i) more inside =
       let e : i ≡ suc i - 1 = omega arith in
       stored-later false 0 (stepsFrom 0 ends) i (inWords 0) (omega (arith, length-stepsFrom 0 ends))
-      ∙ ap (λ (j : ℕ). storedForm true (getD (stepsFrom 0 ends) j 0) (getD (stepsFrom 0 ends) (suc i) 0)) e
+      ∙ ap (λ (j : ℕ). storedForm true (getD (stepsFrom 0 ends) j 0)
+      (getD (stepsFrom 0 ends) (suc i) 0)) e
 
   -- Either: some length before it, or none.
   form-some {ℓ} : {X : Type ℓ} (i : ℕ) → i < length ends
-      → ((h : Bool) (previous : ℕ) → getD (storedOf ends) i (inWords 0) ≡ storedForm h previous (getD (stepsFrom 0 ends) i 0) → X)
+      → ((h : Bool) (previous : ℕ) → getD (storedOf ends) i (inWords 0) ≡ storedForm h previous
+      (getD (stepsFrom 0 ends) i 0) → X)
       → X
   form-some zero inside use′ = use′ false 0 (form-first inside)
   form-some (suc i) inside use′ = use′ true _ (form-later (suc i) (omega arith) inside)
@@ -80,17 +98,20 @@ same-first previous size = by-test (ltb size 256) (λ t. rw t) (λ t. rw t)
 same-later : (previous size : ℕ) → isSame (storedForm true previous size) ≡ eqb size previous
 unfolding storedForm isSame
 same-later previous size =
-    by-test (eqb size previous) (λ t. rw t) (λ t. rw t (by-test (ltb size 256) (λ u. rw u) (λ u. rw u)))
+    by-test (eqb size previous) (λ t. rw t)
+    (λ t. rw t (by-test (ltb size 256) (λ u. rw u) (λ u. rw u)))
 
 module _ (ends : List ℕ) where
-  pub repeats-first : (i : ℕ) → i ≡ 0 → i < length ends → isSame (getD (storedOf ends) i (inWords 0)) ≡ false
+  pub repeats-first : (i : ℕ) → i ≡ 0 → i < length ends
+      → isSame (getD (storedOf ends) i (inWords 0)) ≡ false
   repeats-first i z inside =
       ap (λ (j : ℕ). isSame (getD (storedOf ends) j (inWords 0))) z
       ∙ ap isSame (form-first ends (omega arith))
       ∙ same-first 0 (getD (stepsFrom 0 ends) 0 0)
 
   pub repeats-later : (i : ℕ) → (i ≡ 0 → ⊥) → i < length ends
-      → isSame (getD (storedOf ends) i (inWords 0)) ≡ eqb (getD (stepsFrom 0 ends) i 0) (getD (stepsFrom 0 ends) (i - 1) 0)
+      → isSame (getD (storedOf ends) i (inWords 0)) ≡ eqb (getD (stepsFrom 0 ends) i 0)
+      (getD (stepsFrom 0 ends) (i - 1) 0)
   repeats-later i more inside =
       ap isSame (form-later ends i (omega (arith, more)) inside)
       ∙ same-later (getD (stepsFrom 0 ends) (i - 1) 0) (getD (stepsFrom 0 ends) i 0)
@@ -106,15 +127,20 @@ new-form : (h : Bool) (previous size : ℕ) → isSame (storedForm h previous si
 unfolding storedForm isSame
 new-form h previous size e =
     by-test (h && eqb size previous)
-    (λ t. absurd-test (sym (ap (λ (b : Bool). isSame (cond b same (cond (ltb size 256) (inByte size) (inWords size)))) t) ∙ e))
+    (λ t. absurd-test
+    (sym (ap (λ (b : Bool). isSame
+    (cond b same (cond (ltb size 256) (inByte size) (inWords size)))) t) ∙ e))
     (λ t. rw t)
 
-module _ (ends : List ℕ) (i : ℕ) (inside : i < length ends) (new : isSame (getD (storedOf ends) i (inWords 0)) ≡ false) where
+module _ (ends : List ℕ) (i : ℕ) (inside : i < length ends)
+    (new : isSame (getD (storedOf ends) i (inWords 0)) ≡ false) where
   form-new : getD (storedOf ends) i (inWords 0)
-      ≡ cond (ltb (getD (stepsFrom 0 ends) i 0) 256) (inByte (getD (stepsFrom 0 ends) i 0)) (inWords (getD (stepsFrom 0 ends) i 0))
+      ≡ cond (ltb (getD (stepsFrom 0 ends) i 0) 256) (inByte (getD (stepsFrom 0 ends) i 0))
+      (inWords (getD (stepsFrom 0 ends) i 0))
   form-new =
       form-some ends i inside
-      (λ h previous e. e ∙ new-form h previous (getD (stepsFrom 0 ends) i 0) (sym (ap isSame e) ∙ new))
+      (λ h previous e. e ∙ new-form h previous (getD (stepsFrom 0 ends) i 0)
+      (sym (ap isSame e) ∙ new))
 
   pub form-byte : (size : ℕ) → size ≡ getD (stepsFrom 0 ends) i 0 → size < 256
       → formOf (getD (storedOf ends) i (inWords 0)) ≡ forms.InByte size
@@ -140,7 +166,8 @@ bytes-form same = refl
 bytes-form (inByte size) = refl
 bytes-form (inWords size) = refl
 
-pub flag-form : (sames : Bool) (stored : StoredSize) → formFlag sames (formOf stored) ≡ cond (flagTest sames stored) 1 0
+pub flag-form : (sames : Bool) (stored : StoredSize) → formFlag sames (formOf stored) ≡ cond
+    (flagTest sames stored) 1 0
 unfolding formFlag formOf flagTest isSame isInByte
 flag-form true same = refl
 flag-form true (inByte size) = refl
@@ -170,7 +197,9 @@ flagBit sames ends from k = cond (flagTest sames (getD (storedOf ends) (from + k
 
 pub part-at : (ends : List ℕ) (from k : ℕ) → k < 8
     → getD (part (storedOf ends) from 8) k (inWords 0) ≡ getD (storedOf ends) (from + k) (inWords 0)
-part-at ends from k h = getD-take 8 (drop from (storedOf ends)) k (inWords 0) h ∙ getD-drop from (storedOf ends) k (inWords 0)
+part-at ends from k h =
+    getD-take 8 (drop from (storedOf ends)) k (inWords 0) h ∙ getD-drop from (storedOf ends) k
+    (inWords 0)
 
 -- The byte is made of its bits.
 pub flag-whole : (sames : Bool) (ends : List ℕ) (from : ℕ)
@@ -186,7 +215,8 @@ flag-whole sames ends from =
     ∙ ap (λ (t : Bool). getD (map (flagTest sames) group) k t) (flag-default sames)))
 
 -- Seven bits and fewer leave room for one more.
-pub flag-room : (sames : Bool) (ends : List ℕ) (from k : ℕ) → k < 8 → byteOf 2 k (flagBit sames ends from) < 128
+pub flag-room : (sames : Bool) (ends : List ℕ) (from k : ℕ) → k < 8 → byteOf 2 k
+    (flagBit sames ends from) < 128
 flag-room sames ends from k h =
     let few : byteOf 2 k (flagBit sames ends from) < 2 ^ k =
     byteOf-below 2 k (flagBit sames ends from)
@@ -196,11 +226,13 @@ flag-room sames ends from k h =
     omega arith
 
 pub flag-small : (sames : Bool) (ends : List ℕ) (from k : ℕ) → flagBit sames ends from k < 2
-flag-small sames ends from k = cond-small (flagTest sames (getD (storedOf ends) (from + k) (inWords 0)))
+flag-small sames ends from k =
+    cond-small (flagTest sames (getD (storedOf ends) (from + k) (inWords 0)))
 
 -- ---- Lengths by index
 
-pub step-first : (ends : List ℕ) (i : ℕ) → i ≡ 0 → i < length ends → getD (stepsFrom 0 ends) i 0 ≡ getD ends i 0
+pub step-first : (ends : List ℕ) (i : ℕ) → i ≡ 0 → i < length ends → getD (stepsFrom 0 ends) i 0
+    ≡ getD ends i 0
 step-first ends i z inside =
     ap (λ (j : ℕ). getD (stepsFrom 0 ends) j 0) z
     ∙ stepsFrom-first 0 ends (omega arith)

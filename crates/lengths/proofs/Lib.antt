@@ -1,5 +1,6 @@
 pub mod Collected
 pub mod GroupSteps
+pub mod GroupsLeft
 pub mod CursorLaws
 pub mod WordLaws
 pub mod StepLaws

@@ -1,5 +1,5 @@
--- How a writer stores the lengths of reads that end at given places (01, The writer's fixed rule: same bit before
--- byte-size bit before words).
+-- How a writer stores the lengths of reads that end at given places (01, The writer's fixed rule:
+-- same bit before byte-size bit before words).
 use Prim.Native.Nat.{ℕ}
 use mathlib.Core.Bool.{Bool, false, cond}
 use mathlib.Core.List.{List, [], _∷_}

@@ -1,6 +1,6 @@
-// The lengths of a block's reads (refusals 9 and 10): a cursor that gives them read by read, the walk that
-// validates them all; write.rt has the writer of a size section. The contracts cite specs/Cursor.antt and
-// specs/Given.antt.
+// The lengths of a block's reads (refusals 9 and 10): a cursor that gives them read by read, and the
+// walk that validates them all; write.rt writes a size section. The contracts cite specs/Cursor.antt
+// and specs/Given.antt; none has a `requires`.
 ghost use mathlib.Core.Path.{_≡_};
 ghost use mathlib.Core.Bool.{cond};
 ghost use Prim.Native.Nat.{_+_, _≤_};
@@ -168,7 +168,8 @@ pub fn lengths_sum(section: &[u8], fixed: bool, each: u32, reads: u32) -> Length
 
 // The sum with flag 0x1.
 fn fixed_sum(section: &[u8], each: u32, reads: u32) -> LengthsSum
-    ensures { λ r. ⌜ r ≡ lengthsSum (lengthsFound (fixedLengths each reads (now (section .entry)))) ⌝ }
+    ensures { λ r. ⌜ r ≡ lengthsSum
+        (lengthsFound (fixedLengths each reads (now (section .entry)))) ⌝ }
 {
     if 0 < section.len() {
         return LengthsSum::Refused;

@@ -1,8 +1,8 @@
-// Writing a size section from the ends of the reads, which are lent; a length is the difference of two ends.
-// The contracts cite specs/Form.antt, specs/Sizes.antt of dna and specs/Paste.antt of base. Each `requires` is one
-// that encoding has tested before: at most 50,000 reads, and room for the bytes.
+// Writing a size section from the ends of the reads, which are lent; a length is the difference of
+// two ends. The contracts cite specs/Form.antt, specs/Sizes.antt of dna and specs/Paste.antt of base.
+// Each `requires` is one that encoding has tested before: at most 50,000 reads, and room for the
+// bytes.
 use super::WORD_ESCAPE;
-
 ghost use mathlib.Core.Path.{_≡_};
 ghost use mathlib.Core.Bool.{cond};
 ghost use Prim.Native.Nat.{_+_, _-_, _≤_, _<_, min};
@@ -11,7 +11,14 @@ ghost use lib.ListN.{length, getD};
 ghost use Rattle.base.specs.Lists.{part, stepsFrom};
 ghost use Rattle.base.specs.Paste.{pasted};
 ghost use Rattle.dna.specs.Varint16.{varint16Bytes};
-ghost use Rattle.dna.specs.Sizes.{inWords, isSame, storedBytes, flagByte, sizeGroupBytes, sizeSectionBytes};
+ghost use Rattle.dna.specs.Sizes.{
+  inWords,
+  isSame,
+  storedBytes,
+  flagByte,
+  sizeGroupBytes,
+  sizeSectionBytes,
+};
 ghost use Rattle.format.specs.HeaderFaults.{maxReads};
 ghost use Rattle.format.specs.FixedRule.{allEqual};
 ghost use Rattle.lengths.specs.Form.{storedOf, formOf, formBytes, flagTest, formFlag};
@@ -46,7 +53,8 @@ pub fn sizes_length(ends: &[u32]) -> usize
 pub fn put_sizes(ends: &[u32], out: &mut [u8], at: usize) -> usize
     requires { ⌜ length (now ends) ≤ maxReads ⌝ }
     requires { ⌜ at + length (sizeSectionBytes (storedOf (now ends))) ≤ length (now out) ⌝ }
-    ensures { λ r. ⌜ (now (out .exit) ≡ pasted (now (out .entry)) at (sizeSectionBytes (storedOf (now (ends .entry)))))
+    ensures { λ r. ⌜ (now (out .exit) ≡ pasted (now (out .entry)) at
+        (sizeSectionBytes (storedOf (now (ends .entry)))))
         × (r ≡ at + length (sizeSectionBytes (storedOf (now (ends .entry))))) ⌝ }
 {
     let mut from: usize = 0;
@@ -61,8 +69,10 @@ pub fn put_sizes(ends: &[u32], out: &mut [u8], at: usize) -> usize
 // Writes the group of the reads from `from` on: its two flag bytes, then its sizes.
 fn put_group(ends: &[u32], from: usize, out: &mut [u8], at: usize) -> usize
     requires { ⌜ (from < length (now ends)) × (length (now ends) ≤ maxReads) ⌝ }
-    requires { ⌜ at + length (sizeGroupBytes (part (storedOf (now ends)) from 8)) ≤ length (now out) ⌝ }
-    ensures { λ r. ⌜ (now (out .exit) ≡ pasted (now (out .entry)) at (sizeGroupBytes (part (storedOf (now (ends .entry))) from 8)))
+    requires { ⌜ at + length (sizeGroupBytes (part (storedOf (now ends)) from 8))
+        ≤ length (now out) ⌝ }
+    ensures { λ r. ⌜ (now (out .exit) ≡ pasted (now (out .entry)) at
+        (sizeGroupBytes (part (storedOf (now (ends .entry))) from 8)))
         × (r ≡ at + length (sizeGroupBytes (part (storedOf (now (ends .entry))) from 8))) ⌝ }
 {
     let same = flag_byte(ends, from, true);
@@ -75,8 +85,10 @@ fn put_group(ends: &[u32], from: usize, out: &mut [u8], at: usize) -> usize
 // Writes the sizes of a group.
 fn put_group_sizes(ends: &[u32], from: usize, out: &mut [u8], at: usize) -> usize
     requires { ⌜ (from < length (now ends)) × (length (now ends) ≤ maxReads) ⌝ }
-    requires { ⌜ at + length (flatMap storedBytes (part (storedOf (now ends)) from 8)) ≤ length (now out) ⌝ }
-    ensures { λ r. ⌜ (now (out .exit) ≡ pasted (now (out .entry)) at (flatMap storedBytes (part (storedOf (now (ends .entry))) from 8)))
+    requires { ⌜ at + length (flatMap storedBytes (part (storedOf (now ends)) from 8))
+        ≤ length (now out) ⌝ }
+    ensures { λ r. ⌜ (now (out .exit) ≡ pasted (now (out .entry)) at
+        (flatMap storedBytes (part (storedOf (now (ends .entry))) from 8)))
         × (r ≡ at + length (flatMap storedBytes (part (storedOf (now (ends .entry))) from 8))) ⌝ }
 {
     let size = group_size(ends.len(), from);
@@ -186,7 +198,8 @@ fn flag_byte(ends: &[u32], from: usize, sames: bool) -> u8
 
 // The bit of read i in a flag byte; 0 past the last read.
 fn flag_bit(ends: &[u32], i: usize, sames: bool) -> u8
-    ensures { λ r. ⌜ r ≡ cond (flagTest sames (getD (storedOf (now (ends .entry))) i (inWords 0))) 1 0 ⌝ }
+    ensures { λ r. ⌜ r ≡ cond
+        (flagTest sames (getD (storedOf (now (ends .entry))) i (inWords 0))) 1 0 ⌝ }
 {
     if ends.len() <= i {
         return 0;

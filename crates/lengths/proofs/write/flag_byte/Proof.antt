@@ -1,3 +1,5 @@
+-- `lengths::write::flag_byte` meets its contract. The loop's invariant: the byte so
+-- far is made of the first k bits. Assumes nothing.
 use mathlib.Core.Path.{_≡_, refl, sym, ap, ap₂, _∙_}
 use Prim.Native.Nat.{ℕ, _+_, _-_, _*_, _≤_}
 use native.Mathlib.Numerals.{add-one}
@@ -14,59 +16,62 @@ Inv-loop ends from sames byte₀ k₀ byte k = (k ≤ 8) × (byte ≡ byteOf 2 k
 abbrev μ-loop : tie.MeasureT-loop
 μ-loop ends from sames byte₀ k₀ byte k = 8 - k
 
--- src/write.rt:162:5
 loop-holds : tie.Need-loop-holds Inv-loop μ-loop
 unfolding byteOf
 loop-holds c = (omega arith, refl)
 
--- src/write.rt:163:16
 mul-byte : tie.Need-mul-byte Inv-loop μ-loop
 mul-byte c =
-    omega (arith, c .before .loop .inv .1, flag-room (c .before .before .before .args .sames) (c .before .before .before .args .ends .now) (c .before .before .before .args .from) (c .before .loop .k) (c .loop-test .taken))
+    let a = c .before .before .before .args in
+    omega (
+      arith,
+      c .before .loop .inv .1,
+      flag-room (a .sames) (a .ends .now) (a .from)
+          (c .before .loop .k) (c .loop-test .taken),
+    )
 
--- src/write.rt:163:42
 add-flag-bit : tie.Need-add-flag-bit Inv-loop μ-loop
 add-flag-bit c = search needs
 
--- src/write.rt:163:27
 flag-bit-requires : tie.Need-flag-bit-requires Inv-loop μ-loop
 flag-bit-requires c κs = search needs
 
--- src/write.rt:163:16
 add-byte : tie.Need-add-byte Inv-loop μ-loop
 add-byte c =
+    let l = c .before .before .loop in
+    let a = c .before .before .before .before .args in
     omega (
       arith,
-      c .before .before .loop .inv .1,
+      l .inv .1,
       c .flag-bit .ensures,
-      flag-room (c .before .before .before .before .args .sames) (c .before .before .before .before .args .ends .now) (c .before .before .before .before .args .from) (c .before .before .loop .k) (c .before .loop-test .taken),
-      flag-small (c .before .before .before .before .args .sames) (c .before .before .before .before .args .ends .now) (c .before .before .before .before .args .from) (c .before .before .loop .k),
+      flag-room (a .sames) (a .ends .now) (a .from) (l .k) (c .before .loop-test .taken),
+      flag-small (a .sames) (a .ends .now) (a .from) (l .k),
     )
 
--- src/write.rt:164:9
 add-k : tie.Need-add-k Inv-loop μ-loop
 add-k c = search needs
 
--- src/write.rt:162:5
 loop-less : tie.Need-loop-less Inv-loop μ-loop
 loop-less c = search needs
 
--- src/write.rt:162:5
 loop-again : tie.Need-loop-again Inv-loop μ-loop
 unfolding byteOf
-loop-again c = (
-  omega arith,
-  ap₂ (λ (b n : ℕ). b * 2 + n) (c .before .before .loop .inv .1) (c .flag-bit .ensures)
-      ∙ ap (λ (n : ℕ). byteOf 2 n (flagBit (c .before .before .before .before .args .sames) (c .before .before .before .before .args .ends .now) (c .before .before .before .before .args .from))) (sym (add-one (c .before .before .loop .k))),
-)
+loop-again c =
+    let l = c .before .before .loop in
+    let a = c .before .before .before .before .args in (
+      omega arith,
+      ap₂ (λ (b n : ℕ). b * 2 + n) (l .inv .1) (c .flag-bit .ensures)
+          ∙ ap (λ (n : ℕ). byteOf 2 n (flagBit (a .sames) (a .ends .now) (a .from)))
+          (sym (add-one (l .k))),
+    )
 
--- src/write.rt:156:1
 returns : tie.Need-returns Inv-loop μ-loop
 returns c =
+    let a = c .before .before .before .args in
     let e : c .before .loop .k ≡ 8 = omega arith in
     c .before .loop .inv .1
-    ∙ ap (λ (n : ℕ). byteOf 2 n (flagBit (c .before .before .before .args .sames) (c .before .before .before .args .ends .now) (c .before .before .before .args .from))) e
-    ∙ flag-whole (c .before .before .before .args .sames) (c .before .before .before .args .ends .now) (c .before .before .before .args .from)
+    ∙ ap (λ (n : ℕ). byteOf 2 n (flagBit (a .sames) (a .ends .now) (a .from))) e
+    ∙ flag-whole (a .sames) (a .ends .now) (a .from)
 
 pub flag-byte-spec : {M : Type 1} → statement M
 flag-byte-spec =

@@ -1,3 +1,4 @@
+-- `lengths::write::form_flag` meets its contract: by the form and the flag. Assumes nothing.
 use mathlib.Core.Path.{sym, ap, _∙_}
 use mathlib.Core.Bool.{Bool, cond}
 use Rattle.lengths.specs.Form.{formFlag}
@@ -5,46 +6,48 @@ use borrow.Author.Needs.{needs}
 use Rattle.lengths.proofs.write.form_flag.Statement.{statement}
 use Rattle.lengths.proofs.write.form_flag.Tie as tie
 
--- src/write.rt:185:16
 enum-told : tie.Need-enum-told
 enum-told c = search needs
 
--- src/write.rt:186:17
 returns : tie.Need-returns
 unfolding formFlag
 returns c =
-    sym (ap (formFlag (c .before .before .before .args .sames)) (c .before .enum-told .given .1) ∙ ap (λ (t : Bool). cond t 1 0) (c .if1 .taken))
+    let a = c .before .before .before .args in
+    sym (ap (formFlag (a .sames)) (c .before .enum-told .given .1) ∙ ap (λ (t : Bool). cond t 1 0)
+    (c .if1 .taken))
 
--- src/write.rt:188:13
 returns-2 : tie.Need-returns-2
 unfolding formFlag
 returns-2 c =
-    sym (ap (formFlag (c .before .before .before .args .sames)) (c .before .enum-told .given .1) ∙ ap (λ (t : Bool). cond t 1 0) (c .if1 .left))
+    let a = c .before .before .before .args in
+    sym (ap (formFlag (a .sames)) (c .before .enum-told .given .1) ∙ ap (λ (t : Bool). cond t 1 0)
+    (c .if1 .left))
 
--- src/write.rt:191:16
 enum-told-2 : tie.Need-enum-told-2
 enum-told-2 c = search needs
 
--- src/write.rt:192:17
 returns-3 : tie.Need-returns-3
 unfolding formFlag
 returns-3 c =
-    sym (ap (formFlag (c .before .before .before .args .sames)) (c .before .enum-told2 .given .1) ∙ ap (λ (t : Bool). cond t 0 1) (c .if2 .taken))
+    let a = c .before .before .before .args in
+    sym (ap (formFlag (a .sames)) (c .before .enum-told2 .given .1) ∙ ap (λ (t : Bool). cond t 0 1)
+    (c .if2 .taken))
 
--- src/write.rt:194:13
 returns-4 : tie.Need-returns-4
 unfolding formFlag
 returns-4 c =
-    sym (ap (formFlag (c .before .before .before .args .sames)) (c .before .enum-told2 .given .1) ∙ ap (λ (t : Bool). cond t 0 1) (c .if2 .left))
+    let a = c .before .before .before .args in
+    sym (ap (formFlag (a .sames)) (c .before .enum-told2 .given .1) ∙ ap (λ (t : Bool). cond t 0 1)
+    (c .if2 .left))
 
--- src/write.rt:196:33
 enum-told-3 : tie.Need-enum-told-3
 enum-told-3 c = search needs
 
--- src/write.rt:196:33
 returns-5 : tie.Need-returns-5
 unfolding formFlag
-returns-5 c = sym (ap (formFlag (c .before .before .args .sames)) (c .enum-told3 .given .1))
+returns-5 c =
+    let a = c .before .before .args in
+    sym (ap (formFlag (a .sames)) (c .enum-told3 .given .1))
 
 pub form-flag-spec : {M : Type 1} → statement M
 form-flag-spec =

@@ -1,3 +1,5 @@
+-- `lengths::write::put_sizes` meets its contract. The loop's invariant: writing the
+-- groups that are left makes the buffer what it is to be. Assumes nothing.
 use mathlib.Core.Path.{_≡_, refl}
 use Prim.Native.Nat.{_+_, _-_}
 use lib.ListN.{length, drop}
@@ -12,50 +14,55 @@ use Rattle.lengths.proofs.write.put_sizes.Tie as tie
 
 abbrev Inv-loop : tie.InvT-loop
 Inv-loop ends out₀ at from₀ place₀ out from place =
-    Pasting (pasted out₀ at (sizeSectionBytes (storedOf ends))) (at + length (sizeSectionBytes (storedOf ends))) out place
+    Pasting (pasted out₀ at (sizeSectionBytes (storedOf ends)))
+    (at + length (sizeSectionBytes (storedOf ends))) out place
     (sizeSectionBytes (drop from (storedOf ends)))
     × (length out ≡ length out₀)
 
 abbrev μ-loop : tie.MeasureT-loop
 μ-loop ends out₀ at from₀ place₀ out from place = length ends - from
 
--- src/write.rt:54:5
 loop-holds : tie.Need-loop-holds Inv-loop μ-loop
-loop-holds c = (
-  pasting-start (c .before .before .args .out .now) (c .before .before .args .at) (sizeSectionBytes (storedOf (c .before .before .args .ends .now))) (c .before .before .pre .1),
-  refl,
-)
+loop-holds c =
+    let a = c .before .before .args in (
+      pasting-start (a .out .now) (a .at) (sizeSectionBytes (storedOf (a .ends .now)))
+          (c .before .before .pre .1),
+      refl,
+    )
 
--- src/write.rt:55:9
 put-group-requires : tie.Need-put-group-requires Inv-loop μ-loop
-put-group-requires c κs = (
-  (c .before .loop-test .taken, c .before .before .before .before .before .pre .0),
-  section-room (c .before .before .before .before .before .args .ends .now) (c .before .before .loop .from) (c .before .loop-test .taken) (c .before .before .loop .inv .0),
-)
+put-group-requires c κs =
+    let a = c .before .before .before .before .before .args in
+    let l = c .before .before .loop in (
+      (c .before .loop-test .taken, c .before .before .before .before .before .pre .0),
+      section-room (a .ends .now) (l .from) (c .before .loop-test .taken) (l .inv .0),
+    )
 
--- src/write.rt:56:9
 add-from : tie.Need-add-from Inv-loop μ-loop
 add-from c = search needs
 
--- src/write.rt:54:5
 loop-less : tie.Need-loop-less Inv-loop μ-loop
 loop-less c = search needs
 
--- src/write.rt:54:5
 loop-again : tie.Need-loop-again Inv-loop μ-loop
-loop-again c = (
-  section-turn (c .before .before .before .before .before .before .before .before .args .ends .now) (c .before .before .before .before .before .loop .from) (c .before .before .before .before .loop-test .taken) (c .before .before .before .before .before .loop .inv .0) _ _ (c .before .before .put-group .ensures .0)
-      (c .before .before .put-group .ensures .1),
-  search needs,
-)
+loop-again c =
+    let a = c .before .before .before .before .before .before .before .before .args in
+    let l = c .before .before .before .before .before .loop in
+    let put-group = c .before .before .put-group in (
+      section-turn (a .ends .now) (l .from) (c .before .before .before .before .loop-test .taken)
+          (l .inv .0) _ _ (put-group .ensures .0)
+          (put-group .ensures .1),
+      search needs,
+    )
 
--- src/write.rt:46:1
 same-length : tie.Need-same-length Inv-loop μ-loop
 same-length c = search needs
 
--- src/write.rt:46:1
 returns : tie.Need-returns Inv-loop μ-loop
-returns c = section-end (c .before .before .before .before .args .ends .now) (c .before .loop .from) (c .loop-test .left) (c .before .loop .inv .0)
+returns c =
+    let a = c .before .before .before .before .args in
+    section-end (a .ends .now) (c .before .loop .from) (c .loop-test .left)
+    (c .before .loop .inv .0)
 
 pub put-sizes-spec : {M : Type 1} → statement M
 put-sizes-spec =

@@ -1,3 +1,4 @@
+-- `lengths::write::repeats` meets its contract: the first read repeats none. Assumes nothing.
 use native.Mathlib.Omega.{arith}
 use mathlib.Core.Path.{sym, ap₂, _∙_}
 use lib.Dec.{eqb}
@@ -6,27 +7,25 @@ use borrow.Author.Needs.{needs}
 use Rattle.lengths.proofs.write.repeats.Statement.{statement}
 use Rattle.lengths.proofs.write.repeats.Tie as tie
 
--- src/write.rt:208:9
 returns : tie.Need-returns
-returns c = sym (repeats-first (c .before .before .args .ends .now) (c .before .before .args .i) (c .if1 .taken) (omega arith))
+returns c =
+    let a = c .before .before .args in
+    sym (repeats-first (a .ends .now) (a .i) (c .if1 .taken) (omega arith))
 
--- src/write.rt:210:5
 length-at-requires : tie.Need-length-at-requires
 length-at-requires c κs = search needs
 
--- src/write.rt:210:43
 sub-length-at : tie.Need-sub-length-at
 sub-length-at c = search needs
 
--- src/write.rt:210:27
 length-at-requires-2 : tie.Need-length-at-requires-2
 length-at-requires-2 c κs = search needs
 
--- src/write.rt:203:1
 returns-2 : tie.Need-returns-2
 returns-2 c =
+    let a = c .before .before .before .before .args in
     ap₂ eqb (c .before .length-at .ensures) (c .length-at2 .ensures)
-    ∙ sym (repeats-later (c .before .before .before .before .args .ends .now) (c .before .before .before .before .args .i) (c .before .before .if1 .left) (omega arith))
+    ∙ sym (repeats-later (a .ends .now) (a .i) (c .before .before .if1 .left) (omega arith))
 
 pub repeats-spec : {M : Type 1} → statement M
 repeats-spec =
