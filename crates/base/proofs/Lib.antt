@@ -16,3 +16,5 @@ pub mod SumLaws
 pub mod PlacesLaws
 pub mod ShiftLaws
 pub mod GroupSizeLaws
+pub mod PastingLaws
+pub mod StepsLaws

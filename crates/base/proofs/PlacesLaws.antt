@@ -91,11 +91,6 @@ places-steps start low bound (place ∷ places) h r =
     let back : start + (place - start) ≡ place = omega (arith, r .0) in
     rw back (ap (λ (rest : List ℕ). place ∷ rest) (places-steps place (suc place) bound places (omega arith) (r .2)))
 
-pub length-stepsFrom : (start : ℕ) (places : List ℕ) → length (stepsFrom start places) ≡ length places
-unfolding stepsFrom
-length-stepsFrom start [] = refl
-length-stepsFrom start (place ∷ places) = ap suc (length-stepsFrom place places)
-
 -- A test that holds nowhere keeps nothing, and one that holds somewhere keeps something.
 pub any-places : (test : ℕ → Bool) (list : List ℕ) → length (keep test list) ≡ 0 → any test list ≡ false
 unfolding any keep

@@ -47,12 +47,14 @@ last-clear byte =
     let e : byte % 128 * 2 / 1 % 2 ≡ 0 = omega arith in ap (λ (x : ℕ). eqb x 1) e
 
 -- The bits that are left are those of the byte.
-pub bit-shifted : (byte count k : ℕ) → count + k < 8 → bit (shifted byte count) k ≡ bit byte (count + k)
+pub bit-shifted : (byte count k : ℕ) → count + k < 8 → bit (shifted byte count) k ≡ bit byte
+    (count + k)
 unfolding shifted
 bit-shifted byte zero k h = let e : k ≡ 0 + k = omega arith in ap (bit byte) e
 bit-shifted byte (suc count) k h =
     let e : count + suc k ≡ suc count + k = omega arith in
-    bit-shift (shifted byte count) k (omega arith) ∙ bit-shifted byte count (suc k) (omega arith) ∙ ap (bit byte) e
+    bit-shift (shifted byte count) k (omega arith) ∙ bit-shifted byte count (suc k) (omega arith)
+    ∙ ap (bit byte) e
 
 -- Those that came in are clear.
 clear-shifted : (byte count k : ℕ) → k < 8 → 8 ≤ count + k → bit (shifted byte count) k ≡ false
@@ -60,8 +62,10 @@ unfolding shifted
 clear-shifted byte zero k small h = absurd (omega arith)
 clear-shifted byte (suc count) k small h =
     by-order k 7
-    (λ l. bit-shift (shifted byte count) k l ∙ clear-shifted byte count (suc k) (omega arith) (omega arith))
-    (λ l. let e : k ≡ 7 = omega arith in ap (bit (shifted byte count % 128 * 2)) e ∙ last-clear (shifted byte count))
+    (λ l. bit-shift (shifted byte count) k l ∙ clear-shifted byte count (suc k) (omega arith)
+    (omega arith))
+    (λ l. let e : k ≡ 7 = omega arith in ap (bit (shifted byte count % 128 * 2)) e ∙ last-clear
+    (shifted byte count))
 
 -- The highest bit.
 bit-highest : (byte : ℕ) → byte < 256 → bit byte 0 ≡ leb 128 byte
@@ -76,7 +80,8 @@ bit-highest byte small =
     ap (λ (x : ℕ). eqb x 1) e ∙ sym (le-leb 128 byte l))
 
 -- The highest bit that is left is the next bit of the byte.
-pub highest-shifted : (byte count : ℕ) → byte < 256 → count < 8 → leb 128 (shifted byte count) ≡ bit byte count
+pub highest-shifted : (byte count : ℕ) → byte < 256 → count < 8 → leb 128 (shifted byte count)
+    ≡ bit byte count
 highest-shifted byte count small h =
     let e : count + 0 ≡ count = omega arith in
     sym (bit-highest (shifted byte count) (shifted-below byte count small))
@@ -88,7 +93,8 @@ unfolding bit digit
 zero-clear k = ap (λ (x : ℕ). eqb (x % 2) 1) (zero-div (2 ^ (8 - suc k)))
 
 -- Nothing is left exactly if no bit past the first `count` was set.
-pub shifted-stray : (count byte : ℕ) → byte < 256 → count ≤ 8 → eqb (shifted byte count) 0 ≡ not (byteBitStray count byte)
+pub shifted-stray : (count byte : ℕ) → byte < 256 → count ≤ 8 → eqb (shifted byte count) 0 ≡ not
+    (byteBitStray count byte)
 unfolding byteOf
 shifted-stray count byte small most =
     let left : ℕ = shifted byte count in

@@ -3,7 +3,16 @@ use mathlib.Core.Path.{_≡_, refl, sym, ap, ap₂, _∙_}
 use Prim.Native.Nat.{ℕ, suc, _+_, _-_, _*_, _/_, _%_, _≤_, _<_}
 use native.Mathlib.Omega.{arith}
 use mathlib.Core.List.{List, [], _∷_, _++_, map, flatMap, append-nil}
-use lib.ListN.{length, take, drop, replicate, length-append, length-drop, length-replicate, take-append-drop}
+use lib.ListN.{
+  length,
+  take,
+  drop,
+  replicate,
+  length-append,
+  length-drop,
+  length-replicate,
+  take-append-drop,
+}
 use Rattle.base.specs.Lists.{total}
 use Rattle.base.specs.Numbers.{leBytes}
 use Rattle.base.specs.Groups.{groupCount}
@@ -20,7 +29,8 @@ unfolding varint16Bytes varint16Words flatMap
 varint16-last number small =
     let none : number / 32768 ≡ 0 = omega arith in
     let self : number % 32768 ≡ number = omega arith in
-    ap₂ (λ (k r : ℕ). flatMap (leBytes 2) (replicate k 32768 ++ (r ∷ []))) none self ∙ append-nil (leBytes 2 number)
+    ap₂ (λ (k r : ℕ). flatMap (leBytes 2) (replicate k 32768 ++ (r ∷ []))) none self ∙ append-nil
+    (leBytes 2 number)
 
 -- From 32768 on a word of 32768 comes first.
 pub varint16-more : (number : ℕ) → 32768 ≤ number
@@ -64,14 +74,16 @@ sizeSection-cons one stored = ap (flatMap sizeGroupBytes) (inGroups-cons one sto
 abbrev pub storedTotal : (stored : List StoredSize) → ℕ
 storedTotal stored = total (map (λ one. length (storedBytes one)) stored)
 
-stored-length : (stored : List StoredSize) → length (flatMap storedBytes stored) ≡ storedTotal stored
+stored-length : (stored : List StoredSize) → length (flatMap storedBytes stored)
+    ≡ storedTotal stored
 unfolding flatMap total
 stored-length [] = refl
 stored-length (one ∷ stored) =
     length-append (storedBytes one) (flatMap storedBytes stored)
     ∙ ap (λ (n : ℕ). length (storedBytes one) + n) (stored-length stored)
 
-total-append : (front back : List StoredSize) → storedTotal (front ++ back) ≡ storedTotal front + storedTotal back
+total-append : (front back : List StoredSize) → storedTotal (front ++ back)
+    ≡ storedTotal front + storedTotal back
 unfolding total
 total-append [] back = omega arith
 total-append (one ∷ front) back =
@@ -88,11 +100,13 @@ group-length group = omega (arith, stored-length group)
 more-length : (one : StoredSize) (stored : List StoredSize)
     → length (sizeSectionBytes (drop 8 (one ∷ stored)))
     ≡ 2 * groupCount (length (drop 8 (one ∷ stored))) + storedTotal (drop 8 (one ∷ stored))
-    → length (sizeSectionBytes (one ∷ stored)) ≡ 2 * groupCount (length (one ∷ stored)) + storedTotal (one ∷ stored)
+    → length (sizeSectionBytes (one ∷ stored)) ≡ 2 * groupCount
+    (length (one ∷ stored)) + storedTotal (one ∷ stored)
 unfolding groupCount
 more-length one stored ih =
     let all : List StoredSize = one ∷ stored in
-    let count : (length all + 7) / 8 ≡ suc ((length (drop 8 all) + 7) / 8) = omega (arith, length-drop 8 all) in
+    let count : (length all + 7) / 8 ≡ suc ((length (drop 8 all) + 7) / 8) = omega
+    (arith, length-drop 8 all) in
     let split : storedTotal all ≡ storedTotal (take 8 all) + storedTotal (drop 8 all) =
     ap storedTotal (sym (take-append-drop 8 all)) ∙ total-append (take 8 all) (drop 8 all) in
     ap length (sizeSection-cons one stored)
@@ -104,5 +118,6 @@ pub length-sizeSection : (stored : List StoredSize)
     → length (sizeSectionBytes stored) ≡ 2 * groupCount (length stored) + storedTotal stored
 length-sizeSection =
     by-groups
-    (λ stored. length (sizeSectionBytes stored) ≡ 2 * groupCount (length stored) + storedTotal stored) none-length
+    (λ stored. length (sizeSectionBytes stored) ≡ 2 * groupCount
+    (length stored) + storedTotal stored) none-length
     more-length

@@ -39,7 +39,7 @@ use Rattle.format.specs.FixedRule.{
   writtenHeader,
 }
 use Rattle.format.proofs.HeaderWritten.{HeaderFits, headerOf-headerBytes}
-use Rattle.format.proofs.WrittenSizes.{fit-from}
+use Rattle.format.proofs.WrittenSizes.{fit-from, length-storedFrom}
 
 -- ---- How long a size section is
 
@@ -60,11 +60,6 @@ stored-total has previous [] valid = omega arith
 stored-total has previous (size ∷ lengths) valid =
     let parts = or-neither (lengthInvalid size) _ valid in
     omega (arith, stored-short size previous has (parts .0), stored-total true size lengths (parts .1))
-
-length-storedFrom : (has : Bool) (previous : ℕ) (lengths : List ℕ) → length (storedFrom has previous lengths) ≡ length lengths
-unfolding storedFrom
-length-storedFrom has previous [] = refl
-length-storedFrom has previous (size ∷ lengths) = ap suc (length-storedFrom true size lengths)
 
 -- The size section: at most 10 bytes a read.
 pub sizes-short : (lengths : List ℕ) → any lengthInvalid lengths ≡ false → length (writtenSizes lengths) ≤ 10 * length lengths + 2

@@ -16,7 +16,8 @@ use Rattle.base.proofs.ListLaws.{by-order, by-test, below-at, below-nil, below-
 use Rattle.base.proofs.BitLaws.{any-build, build-any}
 use Rattle.base.proofs.FaultLaws.{any-none}
 use Rattle.base.proofs.PackedLaws.{packedLength-holds}
-use Rattle.base.proofs.PlacesLaws.{Rise, rise-weaken, places-rise, length-stepsFrom, any-places, places-any}
+use Rattle.base.proofs.PlacesLaws.{Rise, rise-weaken, places-rise, any-places, places-any}
+use Rattle.base.proofs.StepsLaws.{length-stepsFrom}
 use Rattle.base.proofs.Tests.{absurd-test, and-both, neither-or, or-neither, not-true}
 use Rattle.dna.specs.Reference.{ReferenceFits, letterOfCode}
 use Rattle.dna.specs.Record.{

@@ -26,6 +26,11 @@ use Rattle.dna.specs.Sizes.{
 }
 use Rattle.format.specs.FixedRule.{storedFrom, allEqual, writtenSizes}
 
+pub length-storedFrom : (has : Bool) (previous : ℕ) (lengths : List ℕ) → length (storedFrom has previous lengths) ≡ length lengths
+unfolding storedFrom
+length-storedFrom has previous [] = refl
+length-storedFrom has previous (size ∷ lengths) = ap suc (length-storedFrom true size lengths)
+
 pub fit-from : (has : Bool) (previous : ℕ) (lengths : List ℕ) → All StoredFits (storedFrom has previous lengths)
 unfolding storedFrom
 fit-from has previous [] = tt

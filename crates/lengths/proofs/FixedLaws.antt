@@ -38,18 +38,21 @@ unfolding lengthInvalid
 length-valid size e h = neither-or _ _ (ne-eqb size 0 e) (le-ltb maxReadLength size h)
 
 module _ (each n : ℕ) (section : List ℕ) where
-  sum-tests : (filled some′ invalid : Bool) → ltb 0 (length section) ≡ filled → ltb 0 n ≡ some′ → lengthInvalid each ≡ invalid
+  sum-tests : (filled some′ invalid : Bool) → ltb 0 (length section) ≡ filled → ltb 0 n ≡ some′
+      → lengthInvalid each ≡ invalid
       → lengthsSum (lengthsFound (fixedLengths each n section))
       ≡ lengthsSum (cond (filled || (some′ && invalid)) none (some (replicate n each)))
   sum-tests filled some′ invalid e f g =
       ap lengthsSum (fixed-found each n section)
       ∙ rw (e, f, g)
 
-  pub fixed-filled : 0 < length section → lengthsSum (lengthsFound (fixedLengths each n section)) ≡ sums.Refused
+  pub fixed-filled : 0 < length section → lengthsSum (lengthsFound (fixedLengths each n section))
+      ≡ sums.Refused
   unfolding lengthsSum
   fixed-filled h = sum-tests true _ _ (lt-ltb 0 (length section) h) refl refl
 
-  pub fixed-unread : length section ≤ 0 → n ≡ 0 → lengthsSum (lengthsFound (fixedLengths each n section)) ≡ sums.Found 0
+  pub fixed-unread : length section ≤ 0 → n ≡ 0 → lengthsSum
+      (lengthsFound (fixedLengths each n section)) ≡ sums.Found 0
   unfolding lengthsSum total
   fixed-unread h z =
       sum-tests false false _ (le-ltb 0 (length section) h) (le-ltb 0 n (omega arith)) refl
@@ -58,7 +61,8 @@ module _ (each n : ℕ) (section : List ℕ) where
   pub fixed-invalid : length section ≤ 0 → 0 < n → lengthInvalid each ≡ true
       → lengthsSum (lengthsFound (fixedLengths each n section)) ≡ sums.Refused
   unfolding lengthsSum
-  fixed-invalid h more i = sum-tests false true true (le-ltb 0 (length section) h) (lt-ltb 0 n more) i
+  fixed-invalid h more i =
+      sum-tests false true true (le-ltb 0 (length section) h) (lt-ltb 0 n more) i
 
   pub fixed-valid : length section ≤ 0 → 0 < n → lengthInvalid each ≡ false
       → lengthsSum (lengthsFound (fixedLengths each n section)) ≡ sums.Found (n * each)

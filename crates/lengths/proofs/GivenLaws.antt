@@ -1,4 +1,5 @@
--- The lengths by the header's numbers are the answer of a block, and their number is that of its stages. Assumes nothing.
+-- The lengths by the header's numbers are the answer of a block, and their number is that of its
+-- stages. Assumes nothing.
 use mathlib.Core.Path.{_≡_, refl, sym, ap, _∙_}
 use Prim.Native.Nat.{ℕ}
 use native.Mathlib.Omega.{arith}
@@ -18,9 +19,22 @@ use Rattle.dna.specs.Sizes.{lengthInvalid}
 use Rattle.dna.specs.SizesAt.{sizesAnswer}
 use Rattle.format.specs.Header.{headerOf, flagSet, sameLengthFlag, readCount}
 use Rattle.format.specs.Sections.{sectionOf, sizeNumber}
-use Rattle.format.specs.BlockAnswer.{BlockAnswer, refuses, lReadInvalid, headerLengths, lengthsAnswer, lengthsStage}
+use Rattle.format.specs.BlockAnswer.{
+  BlockAnswer,
+  refuses,
+  lReadInvalid,
+  headerLengths,
+  lengthsAnswer,
+  lengthsStage,
+}
 use Rattle.lengths.specs.declared.LengthsSum.the-variants as sums
-use Rattle.lengths.specs.Given.{fixedLengths, lengthsGiven, lengthsFound, lengthsSum, lengthsNumber}
+use Rattle.lengths.specs.Given.{
+  fixedLengths,
+  lengthsGiven,
+  lengthsFound,
+  lengthsSum,
+  lengthsNumber,
+}
 
 each-invalid : (each : ℤ) → lReadInvalid each ≡ lengthInvalid (nonNegative each)
 unfolding lReadInvalid nonNegative lengthInvalid
@@ -30,7 +44,8 @@ each-invalid (negsuc n) = refl
 -- The lengths of a block are those that its header's numbers and its size section give.
 pub lengthsAnswer-given : (input : List ℕ)
     → lengthsAnswer input
-    ≡ lengthsGiven (flagSet (headerOf input .flags) sameLengthFlag) (nonNegative (headerOf input .«l_read»))
+    ≡ lengthsGiven (flagSet (headerOf input .flags) sameLengthFlag)
+    (nonNegative (headerOf input .«l_read»))
     (readCount (headerOf input)) (sectionOf input sizeNumber)
 unfolding lengthsAnswer headerLengths lengthsGiven fixedLengths
 lengthsAnswer-given input =
@@ -48,13 +63,15 @@ lengthsAnswer-given input =
 -- ---- What a number says
 
 -- No lengths: 9.
-pub fault-lengths : (raw : ℕ) (lengths : Option (List ℕ)) → lengthsSum lengths ≡ sums.Refused → lengthsNumber raw lengths ≡ 9
+pub fault-lengths : (raw : ℕ) (lengths : Option (List ℕ)) → lengthsSum lengths ≡ sums.Refused
+    → lengthsNumber raw lengths ≡ 9
 unfolding lengthsSum lengthsNumber
 fault-lengths raw none e = refl
 fault-lengths raw (some lengths) e = let z : _≡_ {A = ℕ} 0 1 = cc in absurd (omega arith)
 
 -- The sum is the raw DNA size: 0.
-pub fault-none : (raw sum : ℕ) (lengths : Option (List ℕ)) → lengthsSum lengths ≡ sums.Found sum → raw ≡ sum
+pub fault-none : (raw sum : ℕ) (lengths : Option (List ℕ)) → lengthsSum lengths ≡ sums.Found sum
+    → raw ≡ sum
     → lengthsNumber raw lengths ≡ 0
 unfolding lengthsSum lengthsNumber
 fault-none raw sum none e same = let z : _≡_ {A = ℕ} 0 1 = cc in absurd (omega arith)
@@ -63,7 +80,8 @@ fault-none raw sum (some lengths) e same =
     ap (λ (t : Bool). cond (not t) 10 0) (eq-eqb raw (total lengths) (omega arith))
 
 -- It is not: 10.
-pub fault-size : (raw sum : ℕ) (lengths : Option (List ℕ)) → lengthsSum lengths ≡ sums.Found sum → (raw ≡ sum → ⊥)
+pub fault-size : (raw sum : ℕ) (lengths : Option (List ℕ)) → lengthsSum lengths ≡ sums.Found sum
+    → (raw ≡ sum → ⊥)
     → lengthsNumber raw lengths ≡ 10
 unfolding lengthsSum lengthsNumber
 fault-size raw sum none e other = let z : _≡_ {A = ℕ} 0 1 = cc in absurd (omega arith)
@@ -74,7 +92,8 @@ fault-size raw sum (some lengths) e other =
 -- ---- What a number says of a block
 
 -- 9 is the answer of the block.
-pub stage-nine : (raw : ℕ) (scan : Scan (List ℕ)) (rest : List ℕ → BlockAnswer) → lengthsNumber raw (lengthsFound scan) ≡ 9
+pub stage-nine : (raw : ℕ) (scan : Scan (List ℕ)) (rest : List ℕ → BlockAnswer) → lengthsNumber raw
+    (lengthsFound scan) ≡ 9
     → lengthsStage scan rest ≡ refuses 9 0
 unfolding lengthsFound lengthsNumber lengthsStage
 stage-nine raw (refused number) rest e = refl
@@ -90,7 +109,8 @@ pub record LengthsKnown (raw : ℕ) (scan : Scan (List ℕ)) (wrong : Bool) : Ty
   pub found-them : scan ≡ found lengths next
   pub size : not (eqb raw (total lengths)) ≡ wrong
 
-pub known-ten : (raw : ℕ) (scan : Scan (List ℕ)) → lengthsNumber raw (lengthsFound scan) ≡ 10 → LengthsKnown raw scan true
+pub known-ten : (raw : ℕ) (scan : Scan (List ℕ)) → lengthsNumber raw (lengthsFound scan) ≡ 10
+    → LengthsKnown raw scan true
 unfolding lengthsFound lengthsNumber
 known-ten raw (refused number) e = absurd (omega arith)
 known-ten raw (found lengths next) e =
@@ -98,9 +118,11 @@ known-ten raw (found lengths next) e =
     (λ t. let z : 0 ≡ 10 = sym (ap (λ (b : Bool). cond (not b) 10 0) t) ∙ e in absurd (omega arith))
     (λ t. record { lengths = lengths; next = next; found-them = refl; size = ap not t })
 
-pub known-zero : (raw : ℕ) (scan : Scan (List ℕ)) → lengthsNumber raw (lengthsFound scan) ≡ 0 → LengthsKnown raw scan false
+pub known-zero : (raw : ℕ) (scan : Scan (List ℕ)) → lengthsNumber raw (lengthsFound scan) ≡ 0
+    → LengthsKnown raw scan false
 unfolding lengthsFound lengthsNumber
 known-zero raw (refused number) e = absurd (omega arith)
 known-zero raw (found lengths next) e =
-    by-test (eqb raw (total lengths)) (λ t. record { lengths = lengths; next = next; found-them = refl; size = ap not t })
+    by-test (eqb raw (total lengths))
+    (λ t. record { lengths = lengths; next = next; found-them = refl; size = ap not t })
     (λ t. let z : 10 ≡ 0 = sym (ap (λ (b : Bool). cond (not b) 10 0) t) ∙ e in absurd (omega arith))

@@ -16,17 +16,33 @@ use Rattle.dna.specs.SizesAt.{storedAt, storedSizesAt}
 use Rattle.lengths.specs.declared.SizeCursor.{SizeCursor}
 use Rattle.lengths.specs.declared.LengthStep.{LengthStep}
 use Rattle.lengths.specs.declared.LengthStep.the-variants as steps
-use Rattle.lengths.specs.Cursor.{flagsTaken, storedLength, storedRead, sizeAt, cursorAfter, lengthOrRefused, stepOfSize, flaggedStep, stepOfFlags, lengthStep, consed, onStep, lengthsLeft}
+use Rattle.lengths.specs.Cursor.{
+  flagsTaken,
+  storedLength,
+  storedRead,
+  sizeAt,
+  cursorAfter,
+  lengthOrRefused,
+  stepOfSize,
+  flaggedStep,
+  stepOfFlags,
+  lengthStep,
+  consed,
+  onStep,
+  lengthsLeft,
+}
 use Rattle.lengths.proofs.Collected.{collected, prefixed, collected-cons}
 
 -- A step whose length is judged.
 pub on-judged : (t : Bool) (size : ℕ) (cursor : SizeCursor) (rest : SizeCursor → Option (List ℕ))
-    → onStep (cond t steps.Refused (steps.Found size cursor)) rest ≡ cond t none (consed size (rest cursor))
+    → onStep (cond t steps.Refused (steps.Found size cursor)) rest ≡ cond t none
+    (consed size (rest cursor))
 unfolding onStep
 on-judged true size cursor rest = refl
 on-judged false size cursor rest = refl
 
-module _ (section : List ℕ) (sameByte sizeByte : ℕ) (sameSmall : sameByte < 256) (sizeSmall : sizeByte < 256) where
+module _ (section : List ℕ) (sameByte sizeByte : ℕ) (sameSmall : sameByte < 256)
+    (sizeSmall : sizeByte < 256) where
   -- The cursor before read `place` of a group with these flag bytes.
   abbrev pub groupCursor : (place at previous : ℕ) → SizeCursor
   groupCursor place at previous =
@@ -57,12 +73,14 @@ module _ (section : List ℕ) (sameByte sizeByte : ℕ) (sameSmall : sameByte < 
       e
 
   -- One step, by what its scan finds.
-  step-scan : (place at previous : ℕ) (more : ℕ → Scan (List StoredSize)) (f : SizeCursor → Option (List ℕ))
+  step-scan : (place at previous : ℕ) (more : ℕ → Scan (List StoredSize))
+      (f : SizeCursor → Option (List ℕ))
       (k : ℕ → ℕ → Option (List ℕ)) → place < 8
       → ((next size : ℕ) → f (groupCursor (suc place) next size) ≡ collected size (more next) k)
       → (scan : Scan StoredSize)
       → onStep (stepOfSize (groupCursor place at previous) (storedRead previous scan)) f
-      ≡ collected previous (andThen scan (λ stored next. andThen (more next) (λ rest end. found (stored ∷ rest) end))) k
+      ≡ collected previous
+      (andThen scan (λ stored next. andThen (more next) (λ rest end. found (stored ∷ rest) end))) k
   unfolding onStep stepOfSize storedRead andThen collected lengthOrRefused
   step-scan place at previous more f k small h (refused number) = refl
   step-scan place at previous more f k small h (found stored next) =
@@ -73,7 +91,8 @@ module _ (section : List ℕ) (sameByte sizeByte : ℕ) (sameSmall : sameByte < 
       ∙ sym (collected-cons previous stored (more next) k)
 
   -- One step is the first stored size.
-  pub step-collected : (count place at previous : ℕ) (f : SizeCursor → Option (List ℕ)) (k : ℕ → ℕ → Option (List ℕ))
+  pub step-collected : (count place at previous : ℕ) (f : SizeCursor → Option (List ℕ))
+      (k : ℕ → ℕ → Option (List ℕ))
       → place < 8
       → ((next size : ℕ) → f (groupCursor (suc place) next size)
       ≡ collected size (storedSizesAt count sameByte sizeByte (suc place) section next) k)
@@ -83,14 +102,18 @@ module _ (section : List ℕ) (sameByte sizeByte : ℕ) (sameSmall : sameByte < 
   step-collected count place at previous f k small h =
       ap₂
       (λ (s b : Bool).
-      onStep (stepOfSize (groupCursor place at previous) (storedRead previous (storedAt s b section at))) f)
-      (highest-shifted sameByte place sameSmall small) (highest-shifted sizeByte place sizeSmall small)
-      ∙ step-scan place at previous (storedSizesAt count sameByte sizeByte (suc place) section) f k small h
+      onStep (stepOfSize (groupCursor place at previous)
+      (storedRead previous (storedAt s b section at))) f)
+      (highest-shifted sameByte place sameSmall small)
+      (highest-shifted sizeByte place sizeSmall small)
+      ∙ step-scan place at previous
+      (storedSizesAt count sameByte sizeByte (suc place) section) f k small h
       (storedAt (bit sameByte place) (bit sizeByte place) section at)
 
   -- Inside a group no flag bytes are taken.
   step-inside : (place at previous : ℕ) → 0 < place → place < 8
-      → lengthStep section (groupCursor place at previous) ≡ flaggedStep section (groupCursor place at previous)
+      → lengthStep section (groupCursor place at previous) ≡ flaggedStep section
+      (groupCursor place at previous)
   unfolding lengthStep flagsTaken stepOfFlags
   step-inside place at previous past small =
       let e : eqb (place % 8) 0 ≡ false = ne-eqb (place % 8) 0 (λ z. omega arith) in
@@ -103,13 +126,17 @@ module _ (section : List ℕ) (sameByte sizeByte : ℕ) (sameSmall : sameByte < 
       (λ last end. lengthsLeft left section (groupCursor (place + count) end last))
   unfolding lengthsLeft storedSizesAt collected prefixed
   left-collected zero left place at previous past most =
-      ap₂ (λ (n p : ℕ). lengthsLeft n section (groupCursor p at previous)) (zero-add left) (sym (add-zero place))
+      ap₂ (λ (n p : ℕ). lengthsLeft n section (groupCursor p at previous)) (zero-add left)
+      (sym (add-zero place))
   left-collected (suc count) left place at previous past most =
       let e : suc place + count ≡ place + suc count = omega arith in
-      let k : ℕ → ℕ → ℕ → Option (List ℕ) = λ p last end. lengthsLeft left section (groupCursor p end last) in
+      let k : ℕ → ℕ → ℕ → Option (List ℕ) = λ p last end. lengthsLeft left section
+      (groupCursor p end last) in
       ap (λ (n : ℕ). lengthsLeft n section (groupCursor place at previous)) (suc-add count left)
       ∙ ap (λ (s : LengthStep). onStep s (lengthsLeft (count + left) section))
       (step-inside place at previous past (omega arith))
-      ∙ step-collected count place at previous (lengthsLeft (count + left) section) (k (suc place + count)) (omega arith)
+      ∙ step-collected count place at previous (lengthsLeft (count + left) section)
+      (k (suc place + count)) (omega arith)
       (λ next size. left-collected count left (suc place) next size (omega arith) (omega arith))
-      ∙ ap (λ (p : ℕ). collected previous (storedSizesAt (suc count) sameByte sizeByte place section at) (k p)) e
+      ∙ ap (λ (p : ℕ). collected previous
+      (storedSizesAt (suc count) sameByte sizeByte place section at) (k p)) e

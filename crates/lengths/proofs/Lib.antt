@@ -1,5 +1,6 @@
 pub mod Collected
 pub mod GroupSteps
+pub mod GroupsLeft
 pub mod CursorLaws
 pub mod WordLaws
 pub mod StepLaws
@@ -7,3 +8,6 @@ pub mod NextLaws
 pub mod SignLaws
 pub mod FixedLaws
 pub mod GivenLaws
+pub mod FormLaws
+pub mod WritingLaws
+pub mod EqualLaws

@@ -11,7 +11,8 @@ use Rattle.base.specs.Numbers.{nonNegative}
 
 pub negative-zero : (z : ℤ) → ltZ z (pos 0) ≡ true → 0 ≡ nonNegative z
 unfolding nonNegative
-negative-zero (pos n) e = absurd (let z : _≡_ {A = ℕ} 0 1 = cc (le-ltb n 0 (omega arith)) in omega arith)
+negative-zero (pos n) e =
+    absurd (let z : _≡_ {A = ℕ} 0 1 = cc (le-ltb n 0 (omega arith)) in omega arith)
 negative-zero (negsuc n) e = refl
 
 pub positive-self : (z : ℤ) → ltZ z (pos 0) ≡ false → natAbs z ≡ nonNegative z

@@ -20,7 +20,21 @@ use Rattle.lengths.specs.declared.SizeRead.{SizeRead}
 use Rattle.lengths.specs.declared.SizeRead.the-variants as reads
 use Rattle.lengths.specs.declared.LengthStep.{LengthStep}
 use Rattle.lengths.specs.declared.LengthStep.the-variants as steps
-use Rattle.lengths.specs.Cursor.{flagsTaken, storedLength, wordsRead, wordsFrom, storedRead, sizeAt, cursorAfter, lengthOrRefused, stepOfSize, flaggedStep, stepOfFlags, lengthStep, cursorEnded}
+use Rattle.lengths.specs.Cursor.{
+  flagsTaken,
+  storedLength,
+  wordsRead,
+  wordsFrom,
+  storedRead,
+  sizeAt,
+  cursorAfter,
+  lengthOrRefused,
+  stepOfSize,
+  flaggedStep,
+  stepOfFlags,
+  lengthStep,
+  cursorEnded,
+}
 
 -- ---- The end
 
@@ -28,18 +42,25 @@ module _ (section : List ℕ) (cursor : SizeCursor) where
   pub ended-left : cursor .at < length section → cursorEnded section cursor ≡ false
   unfolding cursorEnded
   ended-left h =
-      ap (λ (t : Bool). not t && (eqb (cursor .same) 0 && eqb (cursor .sizes) 0)) (lt-ltb (cursor .at) (length section) h)
+      ap (λ (t : Bool). not t && (eqb (cursor .same) 0 && eqb (cursor .sizes) 0))
+      (lt-ltb (cursor .at) (length section) h)
 
-  pub ended-rest : length section ≤ cursor .at → cursorEnded section cursor ≡ eqb (cursor .same) 0 && eqb (cursor .sizes) 0
+  pub ended-rest : length section ≤ cursor .at → cursorEnded section cursor ≡ eqb
+      (cursor .same) 0 && eqb (cursor .sizes) 0
   unfolding cursorEnded
   ended-rest h =
-      ap (λ (t : Bool). not t && (eqb (cursor .same) 0 && eqb (cursor .sizes) 0)) (le-ltb (cursor .at) (length section) h)
+      ap (λ (t : Bool). not t && (eqb (cursor .same) 0 && eqb (cursor .sizes) 0))
+      (le-ltb (cursor .at) (length section) h)
 
-  pub ended-same : length section ≤ cursor .at → (cursor .same ≡ 0 → ⊥) → cursorEnded section cursor ≡ false
-  ended-same h e = ended-rest h ∙ ap (λ (t : Bool). t && eqb (cursor .sizes) 0) (ne-eqb (cursor .same) 0 e)
+  pub ended-same : length section ≤ cursor .at → (cursor .same ≡ 0 → ⊥) → cursorEnded section cursor
+      ≡ false
+  ended-same h e =
+      ended-rest h ∙ ap (λ (t : Bool). t && eqb (cursor .sizes) 0) (ne-eqb (cursor .same) 0 e)
 
-  pub ended-sizes : length section ≤ cursor .at → cursor .same ≡ 0 → cursorEnded section cursor ≡ eqb (cursor .sizes) 0
-  ended-sizes h e = ended-rest h ∙ ap (λ (t : Bool). t && eqb (cursor .sizes) 0) (eq-eqb (cursor .same) 0 e)
+  pub ended-sizes : length section ≤ cursor .at → cursor .same ≡ 0 → cursorEnded section cursor
+      ≡ eqb (cursor .sizes) 0
+  ended-sizes h e =
+      ended-rest h ∙ ap (λ (t : Bool). t && eqb (cursor .sizes) 0) (eq-eqb (cursor .same) 0 e)
 
 -- ---- A stored size
 
@@ -50,7 +71,8 @@ words-read previous (found size next) = ap (λ (n : ℕ). reads.Found n next) (s
 words-read previous (refused number) = refl
 
 -- The scan, by the two bits.
-size-bits : (section : List ℕ) (cursor : SizeCursor) (s b : Bool) → leb 128 (cursor .same) ≡ s → leb 128 (cursor .sizes) ≡ b
+size-bits : (section : List ℕ) (cursor : SizeCursor) (s b : Bool) → leb 128 (cursor .same) ≡ s
+    → leb 128 (cursor .sizes) ≡ b
     → sizeAt section cursor ≡ storedRead (cursor .previous) (storedAt s b section (cursor .at))
 unfolding sizeAt
 size-bits section cursor s b e f =
@@ -66,32 +88,38 @@ module _ (section : List ℕ) (cursor : SizeCursor) where
   unfolding storedAt checked storedRead storedLength
   size-same s b = size-bits section cursor true false (le-leb 128 _ s) (lt-leb 128 _ b)
 
-  pub size-words : cursor .same < 128 → cursor .sizes < 128 → sizeAt section cursor ≡ wordsFrom section (cursor .at)
+  pub size-words : cursor .same < 128 → cursor .sizes < 128 → sizeAt section cursor
+      ≡ wordsFrom section (cursor .at)
   unfolding storedAt checked wordsAt wordsFrom
   size-words s b =
-      size-bits section cursor false false (lt-leb 128 _ s) (lt-leb 128 _ b) ∙ words-read (cursor .previous) _
+      size-bits section cursor false false (lt-leb 128 _ s) (lt-leb 128 _ b) ∙ words-read
+      (cursor .previous) _
 
   pub size-cut : cursor .same < 128 → 128 ≤ cursor .sizes → length section ≤ cursor .at
       → sizeAt section cursor ≡ reads.Refused
   unfolding storedAt checked storedRead
   size-cut s b h =
-      size-bits section cursor false true (lt-leb 128 _ s) (le-leb 128 _ b) ∙ rw (le-leb (length section) (cursor .at) h)
+      size-bits section cursor false true (lt-leb 128 _ s) (le-leb 128 _ b)
+      ∙ rw (le-leb (length section) (cursor .at) h)
 
   pub size-byte : cursor .same < 128 → 128 ≤ cursor .sizes → cursor .at < length section
       → sizeAt section cursor ≡ reads.Found (getD section (cursor .at) 0) (cursor .at + 1)
   unfolding storedAt checked storedRead storedLength
   size-byte s b h =
-      size-bits section cursor false true (lt-leb 128 _ s) (le-leb 128 _ b) ∙ rw (lt-leb (length section) (cursor .at) h)
+      size-bits section cursor false true (lt-leb 128 _ s) (le-leb 128 _ b)
+      ∙ rw (lt-leb (length section) (cursor .at) h)
 
 -- ---- A step
 
 module _ (section : List ℕ) (cursor : SizeCursor) where
-  pub step-fixed : cursor .fixed ≡ true → lengthStep section cursor ≡ lengthOrRefused (cursor .previous) cursor
+  pub step-fixed : cursor .fixed ≡ true → lengthStep section cursor ≡ lengthOrRefused
+      (cursor .previous) cursor
   unfolding lengthStep
   step-fixed e =
       ap
       (λ (t : Bool).
-      cond t (lengthOrRefused (cursor .previous) cursor) (stepOfFlags section (flagsTaken section cursor)))
+      cond t (lengthOrRefused (cursor .previous) cursor)
+      (stepOfFlags section (flagsTaken section cursor)))
       e
 
   step-flags : (taken : FlagStep) → cursor .fixed ≡ false → flagsTaken section cursor ≡ taken
@@ -100,7 +128,8 @@ module _ (section : List ℕ) (cursor : SizeCursor) where
   step-flags taken e f =
       ap
       (λ (t : Bool).
-      cond t (lengthOrRefused (cursor .previous) cursor) (stepOfFlags section (flagsTaken section cursor)))
+      cond t (lengthOrRefused (cursor .previous) cursor)
+      (stepOfFlags section (flagsTaken section cursor)))
       e
       ∙ ap (stepOfFlags section) f
 
@@ -115,13 +144,15 @@ module _ (section : List ℕ) (cursor : SizeCursor) where
   unfolding stepOfFlags flaggedStep
   step-size flagged read e f g = step-flags (flags.Found flagged) e f ∙ ap (stepOfSize flagged) g
 
-  pub step-unread : (flagged : SizeCursor) → cursor .fixed ≡ false → flagsTaken section cursor ≡ flags.Found flagged
+  pub step-unread : (flagged : SizeCursor) → cursor .fixed ≡ false → flagsTaken section cursor
+      ≡ flags.Found flagged
       → sizeAt section flagged ≡ reads.Refused → lengthStep section cursor ≡ steps.Refused
   unfolding stepOfSize
   step-unread flagged e f g = step-size flagged reads.Refused e f g
 
   pub step-read : (flagged : SizeCursor) (size next : ℕ) → cursor .fixed ≡ false
-      → flagsTaken section cursor ≡ flags.Found flagged → sizeAt section flagged ≡ reads.Found size next
+      → flagsTaken section cursor ≡ flags.Found flagged → sizeAt section flagged
+      ≡ reads.Found size next
       → lengthStep section cursor ≡ lengthOrRefused size (cursorAfter flagged size next)
   unfolding stepOfSize
   step-read flagged size next e f g = step-size flagged (reads.Found size next) e f g
@@ -161,10 +192,12 @@ step-ranged section cursor size next e =
     (λ t.
     subst
     (λ (b : Bool).
-    Ranged (cond b (lengthOrRefused (cursor .previous) cursor) (stepOfFlags section (flagsTaken section cursor))))
+    Ranged (cond b (lengthOrRefused (cursor .previous) cursor)
+    (stepOfFlags section (flagsTaken section cursor))))
     (sym t) (ranged-judged (cursor .previous) cursor))
     (λ t.
     subst
     (λ (b : Bool).
-    Ranged (cond b (lengthOrRefused (cursor .previous) cursor) (stepOfFlags section (flagsTaken section cursor))))
+    Ranged (cond b (lengthOrRefused (cursor .previous) cursor)
+    (stepOfFlags section (flagsTaken section cursor))))
     (sym t) (ranged-flags section (flagsTaken section cursor))))

@@ -20,13 +20,16 @@ use Rattle.lengths.specs.declared.SizeRead.the-variants as reads
 use Rattle.lengths.specs.Cursor.{wordsRead}
 
 read-checked : (sum : ℕ) (faults : List Fault) (scan : Scan ℕ)
-    → wordsRead sum (checked faults scan) ≡ cond (any (λ f. f .fits) faults) reads.Refused (wordsRead sum scan)
+    → wordsRead sum (checked faults scan) ≡ cond (any (λ f. f .fits) faults) reads.Refused
+    (wordsRead sum scan)
 unfolding wordsRead checked any
 read-checked sum [] scan = refl
-read-checked sum (f ∷ faults) scan = by-test (f .fits) (λ t. rw t) (λ t. rw t (read-checked sum faults scan))
+read-checked sum (f ∷ faults) scan =
+    by-test (f .fits) (λ t. rw t) (λ t. rw t (read-checked sum faults scan))
 
 read-more : (sum : ℕ) (scan : Scan ℕ)
-    → wordsRead sum (andThen scan (λ more next. found (32768 + more) next)) ≡ wordsRead (sum + 32768) scan
+    → wordsRead sum (andThen scan (λ more next. found (32768 + more) next)) ≡ wordsRead
+    (sum + 32768) scan
 unfolding wordsRead andThen
 read-more sum (found more next) = ap (λ (size : ℕ). reads.Found size next) (omega arith)
 read-more sum (refused number) = refl
@@ -53,7 +56,8 @@ module _ (section : List ℕ) (at : ℕ) where
   words-faulty (suc words) sum fits =
       read-checked sum _ _ ∙ cond-yes _ fits refl
 
-  words-sound : (words sum : ℕ) → at + 2 ≤ length section → le 2 section at ≤ 32768 → sum + le 2 section at < 100_001
+  words-sound : (words sum : ℕ) → at + 2 ≤ length section → le 2 section at ≤ 32768
+      → sum + le 2 section at < 100_001
       → wordsRead sum (varint16At (suc words) 100_001 sum section at)
       ≡ wordsRead sum
       (cond (eqb (le 2 section at) 32768)
@@ -70,8 +74,10 @@ module _ (section : List ℕ) (at : ℕ) where
       refl
 
   -- The section ends before the word does.
-  pub words-cut : (sum : ℕ) → ltb (length section) (at + 2) ≡ true → restOfWords section at sum ≡ reads.Refused
-  words-cut sum cut = words-faulty (wordsLeft sum) sum (or-left (ltb (length section) (at + 2)) _ cut)
+  pub words-cut : (sum : ℕ) → ltb (length section) (at + 2) ≡ true → restOfWords section at sum
+      ≡ reads.Refused
+  words-cut sum cut =
+      words-faulty (wordsLeft sum) sum (or-left (ltb (length section) (at + 2)) _ cut)
 
   module _ (sum word : ℕ) (is : word ≡ le 2 section at) where
     -- A word above 32768.
@@ -87,7 +93,8 @@ module _ (section : List ℕ) (at : ℕ) where
         words-faulty (wordsLeft sum) sum
         (or-right (ltb (length section) (at + 2)) _
         (or-right (ltb 32768 (le 2 section at)) _
-        (or-left (leb 100_001 (sum + le 2 section at)) _ (le-leb 100_001 (sum + le 2 section at) (omega arith)))))
+        (or-left (leb 100_001 (sum + le 2 section at)) _
+        (le-leb 100_001 (sum + le 2 section at) (omega arith)))))
 
     -- The last word.
     pub words-last : at + 2 ≤ length section → word < 32768 → sum + word ≤ 100_000
@@ -116,7 +123,8 @@ module _ (section : List ℕ) (at : ℕ) where
         (λ more next. found (32768 + more) next)))
         (sym is)
         ∙ read-more sum (varint16At (wordsLeft (sum + word)) 100_001 (sum + word) section (at + 2))
-        ∙ ap (λ (w : ℕ). wordsRead (sum + w) (varint16At (wordsLeft (sum + word)) 100_001 (sum + word) section (at + 2)))
+        ∙ ap (λ (w : ℕ). wordsRead (sum + w)
+        (varint16At (wordsLeft (sum + word)) 100_001 (sum + word) section (at + 2)))
         (sym full)
 
 -- Whether two bytes at `at` are cut by the end of a list of `size` bytes.

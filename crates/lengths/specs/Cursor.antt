@@ -1,5 +1,5 @@
--- The lengths read by read, from a cursor on. The cursor holds the flag bytes of the group, shifted so that the
--- bit of the next read is the highest. Laws join it to specs/SizesAt.antt of dna.
+-- The lengths read by read, from a cursor on. The cursor holds the flag bytes of the group, shifted
+-- so that the bit of the next read is the highest. Laws join it to specs/SizesAt.antt of dna.
 use Prim.Native.Nat.{ℕ, zero, suc, _+_, _*_, _%_}
 use mathlib.Core.Bool.{Bool, true, false, cond, not, _&&_}
 use mathlib.Core.List.{List, [], _∷_}
@@ -104,7 +104,8 @@ stepOfFlags section flags.Refused = steps.Refused
 -- The length of the next read, and the cursor after it.
 unfoldable pub lengthStep : (section : List ℕ) (cursor : SizeCursor) → LengthStep
 lengthStep section cursor =
-    cond (cursor .fixed) (lengthOrRefused (cursor .previous) cursor) (stepOfFlags section (flagsTaken section cursor))
+    cond (cursor .fixed) (lengthOrRefused (cursor .previous) cursor)
+    (stepOfFlags section (flagsTaken section cursor))
 
 -- All of the section is used, and no bit is left.
 unfoldable pub cursorEnded : (section : List ℕ) (cursor : SizeCursor) → Bool
@@ -122,4 +123,5 @@ onStep steps.Refused rest = none
 -- The lengths of the `left` reads that are still to come, with nothing after them.
 unfoldable pub lengthsLeft : (left : ℕ) (section : List ℕ) (cursor : SizeCursor) → Option (List ℕ)
 lengthsLeft zero section cursor = cond (cursorEnded section cursor) (some []) none
-lengthsLeft (suc left) section cursor = onStep (lengthStep section cursor) (lengthsLeft left section)
+lengthsLeft (suc left) section cursor =
+    onStep (lengthStep section cursor) (lengthsLeft left section)

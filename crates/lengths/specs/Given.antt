@@ -1,5 +1,5 @@
--- The lengths of a block's reads by the header's numbers and its size section (level 2: answers; 01, Lengths and
--- Numbers of refusal, 9 and 10). Laws join them to the answer of a block.
+-- The lengths of a block's reads by the header's numbers and its size section (level 2: answers;
+-- 01, Lengths and Numbers of refusal, 9 and 10). Laws join them to the answer of a block.
 use Prim.Native.Nat.{ℕ}
 use mathlib.Core.Bool.{Bool, cond, not, _&&_}
 use mathlib.Core.List.{List, [], _∷_}
@@ -14,8 +14,8 @@ use Rattle.dna.specs.SizesAt.{sizesAnswer}
 use Rattle.lengths.specs.declared.LengthsSum.{LengthsSum}
 use Rattle.lengths.specs.declared.LengthsSum.the-variants as sum
 
--- With flag 0x1: the section is empty, and each length is l_read, here as a count (0 where it is negative). It is
--- looked at only if there is a read.
+-- With flag 0x1: the section is empty, and each length is l_read, here as a count (0 where it is
+-- negative). It is looked at only if there is a read.
 unfoldable pub fixedLengths : (each reads : ℕ) (section : List ℕ) → Scan (List ℕ)
 fixedLengths each reads section =
     checked (fault 9 (ltb 0 (length section)) ∷ fault 9 (ltb 0 reads && lengthInvalid each) ∷ [])
@@ -23,7 +23,8 @@ fixedLengths each reads section =
 
 -- The lengths, by whether flag 0x1 is set.
 unfoldable pub lengthsGiven : (fixed : Bool) (each reads : ℕ) (section : List ℕ) → Scan (List ℕ)
-lengthsGiven fixed each reads section = cond fixed (fixedLengths each reads section) (sizesAnswer reads section)
+lengthsGiven fixed each reads section =
+    cond fixed (fixedLengths each reads section) (sizesAnswer reads section)
 
 -- The list, whatever number a refusal has: each is 9.
 unfoldable pub lengthsFound : (lengths : Scan (List ℕ)) → Option (List ℕ)

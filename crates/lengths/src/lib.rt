@@ -1,6 +1,6 @@
-// The lengths of a block's reads (refusals 9 and 10): a cursor that gives them read by read, the walk that
-// validates them all, and the writer of a size section. The contracts cite specs/Cursor.antt and
-// specs/Given.antt, and specs/Sizes.antt of dna.
+// The lengths of a block's reads (refusals 9 and 10): a cursor that gives them read by read, and the
+// walk that validates them all; write.rt writes a size section. The contracts cite specs/Cursor.antt
+// and specs/Given.antt; none has a `requires`.
 ghost use mathlib.Core.Path.{_≡_};
 ghost use mathlib.Core.Bool.{cond};
 ghost use Prim.Native.Nat.{_+_, _≤_};
@@ -25,11 +25,14 @@ ghost use Rattle.lengths.specs.Cursor.{
   cursorEnded,
 };
 
+// Writing a size section.
+pub mod write;
+
 // The most letters that a read may have.
 const MAX_READ_LENGTH: u32 = 100_000;
 
 // The word that says that another follows.
-const WORD_ESCAPE: u32 = 32768;
+pub const WORD_ESCAPE: u32 = 32768;
 
 // Refusals.
 pub const LENGTHS_INVALID: u32 = 9;
@@ -165,7 +168,8 @@ pub fn lengths_sum(section: &[u8], fixed: bool, each: u32, reads: u32) -> Length
 
 // The sum with flag 0x1.
 fn fixed_sum(section: &[u8], each: u32, reads: u32) -> LengthsSum
-    ensures { λ r. ⌜ r ≡ lengthsSum (lengthsFound (fixedLengths each reads (now (section .entry)))) ⌝ }
+    ensures { λ r. ⌜ r ≡ lengthsSum
+        (lengthsFound (fixedLengths each reads (now (section .entry)))) ⌝ }
 {
     if 0 < section.len() {
         return LengthsSum::Refused;

@@ -14,7 +14,7 @@ use Rattle.base.specs.Scan.{firstNumber}
 use Rattle.base.proofs.FaultLaws.{any-firstNumber}
 use Rattle.base.proofs.ListLaws.{by-test}
 use Rattle.base.proofs.GroupLaws.{length-flatten}
-use Rattle.base.proofs.PlacesLaws.{length-stepsFrom}
+use Rattle.base.proofs.StepsLaws.{length-stepsFrom, steps-of-places, last-place}
 use Rattle.base.proofs.ScanLaws.{cond-yes, cond-no, cond-parts}
 use Rattle.base.proofs.Tests.{or-neither, neither-or, not-false, true-not, any-append}
 use Rattle.dna.specs.Reference.{alphabet, referenceSizeWrong, ReferenceFits}
@@ -33,7 +33,7 @@ use Rattle.format.specs.EncodeAnswer.{
   encoded,
 }
 use Rattle.format.specs.Demands.{Writable}
-use Rattle.format.proofs.WritesBlocks.Inputs.{length-places, steps-of-places, last-place, places-of-steps, all-valid, ends-count}
+use Rattle.format.proofs.WritesBlocks.Inputs.{places-of-steps, all-valid, ends-count}
 
 -- ---- The number 0
 

@@ -12,6 +12,7 @@ use Rattle.base.specs.Lists.{build, part, any, member, indexOf, total, placesFr
 use Rattle.base.proofs.ListLaws.{by-test, length-build, build-cong, all-build, below-at, below-nil, below-cons}
 use Rattle.base.proofs.GroupLaws.{map-build, length-flatten}
 use Rattle.base.proofs.PlaceLaws.{at-middle, at-part}
+use Rattle.base.proofs.StepsLaws.{length-places, last-place}
 use Rattle.base.proofs.Tests.{absurd-test, or-neither, neither-or, not-false, true-not, any-append}
 use Rattle.dna.specs.Reference.{alphabet, letterOfCode}
 use Rattle.dna.specs.Sizes.{lengthInvalid}
@@ -63,24 +64,6 @@ codes-lengths [] = refl
 codes-lengths (read ∷ reads) = ap₂ _∷_ (length-map read codeOfLetter) (codes-lengths reads)
 
 -- ---- Ends
-
-pub length-places : (start : ℕ) (steps : List ℕ) → length (placesFrom start steps) ≡ length steps
-unfolding placesFrom
-length-places start [] = refl
-length-places start (step ∷ steps) = ap suc (length-places (start + step) steps)
-
-pub steps-of-places : (start : ℕ) (steps : List ℕ) → stepsFrom start (placesFrom start steps) ≡ steps
-unfolding placesFrom stepsFrom
-steps-of-places start [] = refl
-steps-of-places start (step ∷ steps) =
-    let first : start + step - start ≡ step = omega arith in
-    ap₂ _∷_ first (steps-of-places (start + step) steps)
-
--- The last end is the sum of the lengths.
-pub last-place : (start : ℕ) (steps : List ℕ) → getD (start ∷ placesFrom start steps) (length steps) 0 ≡ start + total steps
-unfolding placesFrom total
-last-place start [] = omega arith
-last-place start (step ∷ steps) = last-place (start + step) steps ∙ omega arith
 
 -- Ends that rise by lengths are where those lead.
 pub places-of-steps : (start : ℕ) (places : List ℕ) → any lengthInvalid (stepsFrom start places) ≡ false

@@ -1,3 +1,5 @@
+-- `lengths::cut_at` meets its contract: without 2 bytes the first test; else the distance to the
+-- end. Assumes nothing.
 use Prim.Native.Nat.{ℕ, _+_, _<_}
 use mathlib.Core.Path.{sym}
 use native.Mathlib.Omega.{arith}

@@ -1,3 +1,5 @@
+-- `lengths::first_cursor` meets its contract: the length before is that of flag 0x1, as a count.
+-- Assumes nothing.
 use mathlib.Core.Path.{_≡_, ap, _∙_}
 use Prim.Native.Nat.{ℕ}
 use mathlib.Core.Bool.{cond}
@@ -20,10 +22,19 @@ first-previous-requires c κs = search needs
 returns : tie.Need-returns
 unfolding firstCursor
 returns c =
-    let each : ℤ = c .before .before .args .each in
+    let a = c .before .before .args in
+    let each : ℤ = a .each in
     let q : toZ w32 (ofZ w32 each) ≡ each = toZ-ofZ w32 each (c .before .before .fits .each) in
-    ap (λ (p : ℕ). record { fixed = c .before .before .args .fixed; at = 0; place = 0; previous = p; same = 0; sizes = 0 })
-    (c .first-previous .ensures ∙ ap (λ (n : ℕ). cond (c .before .before .args .fixed) n 0) (c .before .non-negative .ensures ∙ ap nonNegative q))
+    ap (λ (p : ℕ). record {
+      fixed = a .fixed;
+      at = 0;
+      place = 0;
+      previous = p;
+      same = 0;
+      sizes = 0;
+    })
+    (c .first-previous .ensures ∙ ap (λ (n : ℕ). cond (a .fixed) n 0)
+    (c .before .non-negative .ensures ∙ ap nonNegative q))
 
 pub first-cursor-spec : {M : Type 1} → statement M
 first-cursor-spec = tie.close (tie.spec non-negative-requires first-previous-requires returns)

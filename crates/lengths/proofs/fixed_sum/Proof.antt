@@ -1,29 +1,47 @@
+-- `lengths::fixed_sum` meets its contract: a law for each way; the product fits 64 bits. Assumes
+-- nothing.
 use Rattle.lengths.proofs.FixedLaws.{product-fits}
 use mathlib.Core.Path.{sym, ap₂, _∙_}
 use Prim.Native.Nat.{ℕ, _*_}
 use native.Mathlib.Omega.{arith}
 use Rattle.lengths.specs.declared.LengthsSum.the-variants as sums
-use Rattle.lengths.proofs.FixedLaws.{length-zero, length-large, length-valid, fixed-filled, fixed-unread, fixed-invalid, fixed-valid}
+use Rattle.lengths.proofs.FixedLaws.{
+  length-zero,
+  length-large,
+  length-valid,
+  fixed-filled,
+  fixed-unread,
+  fixed-invalid,
+  fixed-valid,
+}
 use borrow.Author.Needs.{needs}
 use Rattle.lengths.proofs.fixed_sum.Statement.{statement}
 use Rattle.lengths.proofs.fixed_sum.Tie as tie
 
 returns : tie.Need-returns
-returns c = sym (fixed-filled (c .before .before .args .each) (c .before .before .args .reads) (c .before .before .args .section .now) (c .if1 .taken))
+returns c =
+    let a = c .before .before .args in
+    sym (fixed-filled (a .each) (a .reads) (a .section .now) (c .if1 .taken))
 
 returns-2 : tie.Need-returns-2
-returns-2 c = sym (fixed-unread (c .before .before .before .args .each) (c .before .before .before .args .reads) (c .before .before .before .args .section .now) (c .before .if1 .left) (c .if2 .taken))
+returns-2 c =
+    let a = c .before .before .before .args in
+    sym (fixed-unread (a .each) (a .reads) (a .section .now) (c .before .if1 .left) (c .if2 .taken))
 
 returns-3 : tie.Need-returns-3
 returns-3 c =
+    let a = c .before .before .before .before .args in
     sym
-    (fixed-invalid (c .before .before .before .before .args .each) (c .before .before .before .before .args .reads) (c .before .before .before .before .args .section .now) (c .before .before .if1 .left) (omega arith)
+    (fixed-invalid (a .each) (a .reads) (a .section .now) (c .before .before .if1 .left)
+    (omega arith)
     (length-zero _ (c .if3 .taken)))
 
 returns-4 : tie.Need-returns-4
 returns-4 c =
+    let a = c .before .before .before .before .before .args in
     sym
-    (fixed-invalid (c .before .before .before .before .before .args .each) (c .before .before .before .before .before .args .reads) (c .before .before .before .before .before .args .section .now) (c .before .before .before .if1 .left) (omega arith)
+    (fixed-invalid (a .each) (a .reads) (a .section .now) (c .before .before .before .if1 .left)
+    (omega arith)
     (length-large _ (c .if4 .taken)))
 
 wide64-requires : tie.Need-wide64-requires
@@ -35,14 +53,18 @@ wide64-requires-2 c κs = search needs
 mul-t8 : tie.Need-mul-t8
 mul-t8 c =
     record {
-      fits = product-fits (c .before .wide64 .result) (c .wide642 .result) (c .before .wide64 .ensures .1) (omega (arith, c .wide642 .ensures .0));
+      fits =
+          product-fits (c .before .wide64 .result) (c .wide642 .result)
+          (c .before .wide64 .ensures .1) (omega (arith, c .wide642 .ensures .0));
     }
 
 returns-5 : tie.Need-returns-5
 returns-5 c =
+    let a = c .before .before .before .before .before .before .before .args in
     ap₂ (λ (n x : ℕ). sums.Found (n * x)) (c .before .wide64 .ensures .0) (c .wide642 .ensures .0)
     ∙ sym
-    (fixed-valid (c .before .before .before .before .before .before .before .args .each) (c .before .before .before .before .before .before .before .args .reads) (c .before .before .before .before .before .before .before .args .section .now) (c .before .before .before .before .before .if1 .left) (omega arith)
+    (fixed-valid (a .each) (a .reads) (a .section .now)
+    (c .before .before .before .before .before .if1 .left) (omega arith)
     (length-valid _ (c .before .before .before .if3 .left) (c .before .before .if4 .left)))
 
 pub fixed-sum-spec : {M : Type 1} → statement M

@@ -1,3 +1,5 @@
+-- `lengths::length_or_refused` meets its contract: the two tests of a length that is in range.
+-- Assumes nothing.
 use borrow.Author.Tests.{lt-ltb, le-ltb, ne-eqb, eq-eqb}
 use Rattle.dna.specs.Sizes.{lengthInvalid}
 use Rattle.lengths.specs.Cursor.{lengthOrRefused}

@@ -1,3 +1,5 @@
+-- `lengths::lengths_fault` meets its contract: 9 without a sum, 10 where it is not the raw size.
+-- Assumes nothing.
 use mathlib.Core.Path.{_≡_, sym, ap, _∙_}
 use Prim.Native.Nat.{ℕ}
 use mir.Val.{toZ, ofZ}
@@ -24,42 +26,58 @@ enum-told c = search needs
 
 returns : tie.Need-returns
 returns c =
-    let q : toZ w32 (ofZ w32 (c .before .before .before .before .before .args .each)) ≡ c .before .before .before .before .before .args .each = toZ-ofZ w32 (c .before .before .before .before .before .args .each) (c .before .before .before .before .before .fits .each) in
+    let a = c .before .before .before .before .before .args in
+    let lengths-sum = c .before .before .lengths-sum in
+    let non-negative = c .before .before .before .non-negative in
+    let q : toZ w32 (ofZ w32 (a .each)) ≡ a .each = toZ-ofZ w32 (a .each)
+    (c .before .before .before .before .before .fits .each) in
     let given : lengthsSum
-    (lengthsFound (lengthsGiven (c .before .before .before .before .before .args .fixed) (nonNegative (c .before .before .before .before .before .args .each)) (c .before .before .before .before .before .args .reads) (c .before .before .before .before .before .args .section .now)))
-    ≡ c .before .before .lengths-sum .result =
+    (lengthsFound (lengthsGiven (a .fixed) (nonNegative (a .each)) (a .reads) (a .section .now)))
+    ≡ lengths-sum .result =
     ap
-    (λ (n : ℕ). lengthsSum (lengthsFound (lengthsGiven (c .before .before .before .before .before .args .fixed) n (c .before .before .before .before .before .args .reads) (c .before .before .before .before .before .args .section .now))))
-    (sym (c .before .before .before .non-negative .ensures ∙ ap nonNegative q))
-    ∙ sym (c .before .before .lengths-sum .ensures) in
-    sym (fault-lengths (c .before .before .before .before .before .args .raw) _ (given ∙ c .enum-told .given .1))
+    (λ (n : ℕ). lengthsSum (lengthsFound (lengthsGiven (a .fixed) n (a .reads) (a .section .now))))
+    (sym (non-negative .ensures ∙ ap nonNegative q))
+    ∙ sym (lengths-sum .ensures) in
+    sym (fault-lengths (a .raw) _ (given ∙ c .enum-told .given .1))
 
 wide64-requires : tie.Need-wide64-requires
 wide64-requires c κs = search needs
 
 returns-2 : tie.Need-returns-2
 returns-2 c =
-    let q : toZ w32 (ofZ w32 (c .before .before .before .before .before .before .before .before .args .each)) ≡ c .before .before .before .before .before .before .before .before .args .each = toZ-ofZ w32 (c .before .before .before .before .before .before .before .before .args .each) (c .before .before .before .before .before .before .before .before .fits .each) in
+    let a = c .before .before .before .before .before .before .before .before .args in
+    let fits = c .before .before .before .before .before .before .before .before .fits in
+    let lengths-sum = c .before .before .before .before .before .lengths-sum in
+    let non-negative = c .before .before .before .before .before .before .non-negative in
+    let sum = c .before .before .before .sum in
+    let q : toZ w32 (ofZ w32 (a .each)) ≡ a .each = toZ-ofZ w32 (a .each) (fits .each) in
     let given : lengthsSum
-    (lengthsFound (lengthsGiven (c .before .before .before .before .before .before .before .before .args .fixed) (nonNegative (c .before .before .before .before .before .before .before .before .args .each)) (c .before .before .before .before .before .before .before .before .args .reads) (c .before .before .before .before .before .before .before .before .args .section .now)))
-    ≡ c .before .before .before .before .before .lengths-sum .result =
+    (lengthsFound (lengthsGiven (a .fixed) (nonNegative (a .each)) (a .reads) (a .section .now)))
+    ≡ lengths-sum .result =
     ap
-    (λ (n : ℕ). lengthsSum (lengthsFound (lengthsGiven (c .before .before .before .before .before .before .before .before .args .fixed) n (c .before .before .before .before .before .before .before .before .args .reads) (c .before .before .before .before .before .before .before .before .args .section .now))))
-    (sym (c .before .before .before .before .before .before .non-negative .ensures ∙ ap nonNegative q))
-    ∙ sym (c .before .before .before .before .before .lengths-sum .ensures) in
-    sym (fault-none (c .before .before .before .before .before .before .before .before .args .raw) _ _ (given ∙ c .before .before .before .sum .given .1) (sym (c .before .wide64 .ensures .0) ∙ c .if1 .taken))
+    (λ (n : ℕ). lengthsSum (lengthsFound (lengthsGiven (a .fixed) n (a .reads) (a .section .now))))
+    (sym (non-negative .ensures ∙ ap nonNegative q))
+    ∙ sym (lengths-sum .ensures) in
+    sym (fault-none (a .raw) _ _ (given ∙ sum .given .1)
+    (sym (c .before .wide64 .ensures .0) ∙ c .if1 .taken))
 
 returns-3 : tie.Need-returns-3
 returns-3 c =
-    let q : toZ w32 (ofZ w32 (c .before .before .before .before .before .before .before .before .args .each)) ≡ c .before .before .before .before .before .before .before .before .args .each = toZ-ofZ w32 (c .before .before .before .before .before .before .before .before .args .each) (c .before .before .before .before .before .before .before .before .fits .each) in
+    let a = c .before .before .before .before .before .before .before .before .args in
+    let fits = c .before .before .before .before .before .before .before .before .fits in
+    let lengths-sum = c .before .before .before .before .before .lengths-sum in
+    let non-negative = c .before .before .before .before .before .before .non-negative in
+    let sum = c .before .before .before .sum in
+    let q : toZ w32 (ofZ w32 (a .each)) ≡ a .each = toZ-ofZ w32 (a .each) (fits .each) in
     let given : lengthsSum
-    (lengthsFound (lengthsGiven (c .before .before .before .before .before .before .before .before .args .fixed) (nonNegative (c .before .before .before .before .before .before .before .before .args .each)) (c .before .before .before .before .before .before .before .before .args .reads) (c .before .before .before .before .before .before .before .before .args .section .now)))
-    ≡ c .before .before .before .before .before .lengths-sum .result =
+    (lengthsFound (lengthsGiven (a .fixed) (nonNegative (a .each)) (a .reads) (a .section .now)))
+    ≡ lengths-sum .result =
     ap
-    (λ (n : ℕ). lengthsSum (lengthsFound (lengthsGiven (c .before .before .before .before .before .before .before .before .args .fixed) n (c .before .before .before .before .before .before .before .before .args .reads) (c .before .before .before .before .before .before .before .before .args .section .now))))
-    (sym (c .before .before .before .before .before .before .non-negative .ensures ∙ ap nonNegative q))
-    ∙ sym (c .before .before .before .before .before .lengths-sum .ensures) in
-    sym (fault-size (c .before .before .before .before .before .before .before .before .args .raw) _ _ (given ∙ c .before .before .before .sum .given .1) (λ e. c .if1 .left (c .before .wide64 .ensures .0 ∙ e)))
+    (λ (n : ℕ). lengthsSum (lengthsFound (lengthsGiven (a .fixed) n (a .reads) (a .section .now))))
+    (sym (non-negative .ensures ∙ ap nonNegative q))
+    ∙ sym (lengths-sum .ensures) in
+    sym (fault-size (a .raw) _ _ (given ∙ sum .given .1)
+    (λ e. c .if1 .left (c .before .wide64 .ensures .0 ∙ e)))
 
 pub lengths-fault-spec : {M : Type 1} → statement M
 lengths-fault-spec =

@@ -1,3 +1,4 @@
+-- `lengths::lengths_sum` meets its contract: by whether flag 0x1 is set. Assumes nothing.
 use Rattle.lengths.specs.Given.{lengthsGiven}
 use borrow.Author.Needs.{needs}
 use Rattle.lengths.proofs.lengths_sum.Statement.{statement}

@@ -1,3 +1,4 @@
+-- `lengths::next_length` meets its contract: one law for each way through a step. Assumes nothing.
 use mathlib.Core.Path.{sym, _∙_}
 use Rattle.lengths.specs.Cursor.{cursorAfter}
 use Rattle.lengths.proofs.StepLaws.{step-fixed, step-unflagged, step-unread, step-read}
@@ -10,7 +11,9 @@ length-or-refused-requires c κs = search needs
 
 returns : tie.Need-returns
 returns c =
-    c .length-or-refused .ensures ∙ sym (step-fixed (c .before .before .before .args .section .now) (c .before .before .before .args .cursor) (c .before .if1 .taken))
+    let a = c .before .before .before .args in
+    c .length-or-refused .ensures
+    ∙ sym (step-fixed (a .section .now) (a .cursor) (c .before .if1 .taken))
 
 take-flags-requires : tie.Need-take-flags-requires
 take-flags-requires c κs = search needs
@@ -23,9 +26,11 @@ enum-told c = search needs
 
 returns-2 : tie.Need-returns-2
 returns-2 c =
+    let a = c .before .before .before .before .before .args in
+    let take-flags = c .before .before .take-flags in
     sym
-    (step-unflagged (c .before .before .before .before .before .args .section .now) (c .before .before .before .before .before .args .cursor) (c .before .before .before .if1 .left)
-    (sym (c .before .before .take-flags .ensures) ∙ c .enum-told .given .1))
+    (step-unflagged (a .section .now) (a .cursor) (c .before .before .before .if1 .left)
+    (sym (take-flags .ensures) ∙ c .enum-told .given .1))
 
 read-size-requires : tie.Need-read-size-requires
 read-size-requires c κs = search needs
@@ -38,9 +43,15 @@ enum-told-2 c = search needs
 
 returns-3 : tie.Need-returns-3
 returns-3 c =
+    let a = c .before .before .before .before .before .before .before .before .before .args in
+    let flagged = c .before .before .before .before .flagged in
+    let if1 = c .before .before .before .before .before .before .before .if1 in
+    let take-flags = c .before .before .before .before .before .before .take-flags in
+    let read-size = c .before .before .read-size in
     sym
-    (step-unread (c .before .before .before .before .before .before .before .before .before .args .section .now) (c .before .before .before .before .before .before .before .before .before .args .cursor) (c .before .before .before .before .flagged .given .0 .0) (c .before .before .before .before .before .before .before .if1 .left)
-    (sym (c .before .before .before .before .before .before .take-flags .ensures) ∙ c .before .before .before .before .flagged .given .1) (sym (c .before .before .read-size .ensures) ∙ c .enum-told2 .given .1))
+    (step-unread (a .section .now) (a .cursor) (flagged .given .0 .0) (if1 .left)
+    (sym (take-flags .ensures) ∙ flagged .given .1)
+    (sym (read-size .ensures) ∙ c .enum-told2 .given .1))
 
 add-t10 : tie.Need-add-t10
 add-t10 c = search needs
@@ -57,10 +68,20 @@ length-or-refused-requires-2 c κs = search needs
 returns-4 : tie.Need-returns-4
 unfolding cursorAfter
 returns-4 c =
+    let a = c .before .before .before .before .before .before .before .before .before .before
+    .before .before .before .before .args in
+    let flagged = c .before .before .before .before .before .before .before .before .before .flagged
+    in
+    let if1 = c .before .before .before .before .before .before .before .before .before .before
+    .before .before .if1 in
+    let take-flags = c .before .before .before .before .before .before .before .before .before
+    .before .before .take-flags in
+    let read-size = c .before .before .before .before .before .before .before .read-size in
+    let size = c .before .before .before .before .before .size in
     c .length-or-refused2 .ensures
     ∙ sym
-    (step-read (c .before .before .before .before .before .before .before .before .before .before .before .before .before .before .args .section .now) (c .before .before .before .before .before .before .before .before .before .before .before .before .before .before .args .cursor) (c .before .before .before .before .before .before .before .before .before .flagged .given .0 .0) _ _ (c .before .before .before .before .before .before .before .before .before .before .before .before .if1 .left)
-    (sym (c .before .before .before .before .before .before .before .before .before .before .before .take-flags .ensures) ∙ c .before .before .before .before .before .before .before .before .before .flagged .given .1) (sym (c .before .before .before .before .before .before .before .read-size .ensures) ∙ c .before .before .before .before .before .size .given .1))
+    (step-read (a .section .now) (a .cursor) (flagged .given .0 .0) _ _ (if1 .left)
+    (sym (take-flags .ensures) ∙ flagged .given .1) (sym (read-size .ensures) ∙ size .given .1))
 
 pub next-length-spec : {M : Type 1} → statement M
 next-length-spec =

@@ -1,3 +1,4 @@
+-- `lengths::non_negative` meets its contract: a signed number by its sign. Assumes nothing.
 use mathlib.Core.Path.{_≡_, _∙_, ap}
 use Prim.Native.Nat.{_<_, _^_}
 use native.Mathlib.Omega.{arith}

@@ -1,3 +1,4 @@
+-- `lengths::read_size` meets its contract: one law for each pair of bits. Assumes nothing.
 use mathlib.Core.Path.{sym, ap, _∙_}
 use Prim.Native.Nat.{ℕ, _+_}
 use Rattle.lengths.specs.declared.SizeRead.the-variants as sizes
@@ -7,20 +8,30 @@ use Rattle.lengths.proofs.read_size.Statement.{statement}
 use Rattle.lengths.proofs.read_size.Tie as tie
 
 returns : tie.Need-returns
-returns c = sym (size-both (c .before .before .before .before .before .args .section .now) (c .before .before .before .before .before .args .cursor) (c .before .before .if1 .taken) (c .if2 .taken))
+returns c =
+    let a = c .before .before .before .before .before .args in
+    sym (size-both (a .section .now) (a .cursor) (c .before .before .if1 .taken) (c .if2 .taken))
 
 returns-2 : tie.Need-returns-2
-returns-2 c = sym (size-same (c .before .before .before .before .before .args .section .now) (c .before .before .before .before .before .args .cursor) (c .before .before .if1 .taken) (c .if2 .left))
+returns-2 c =
+    let a = c .before .before .before .before .before .args in
+    sym (size-same (a .section .now) (a .cursor) (c .before .before .if1 .taken) (c .if2 .left))
 
 read-words-requires : tie.Need-read-words-requires
 read-words-requires c κs = search needs
 
 returns-3 : tie.Need-returns-3
 returns-3 c =
-    c .read-words .ensures ∙ sym (size-words (c .before .before .before .before .before .before .args .section .now) (c .before .before .before .before .before .before .args .cursor) (c .before .before .before .if1 .left) (c .before .if3 .taken))
+    let a = c .before .before .before .before .before .before .args in
+    c .read-words .ensures
+    ∙ sym (size-words (a .section .now) (a .cursor) (c .before .before .before .if1 .left)
+    (c .before .if3 .taken))
 
 returns-4 : tie.Need-returns-4
-returns-4 c = sym (size-cut (c .before .before .before .before .before .before .args .section .now) (c .before .before .before .before .before .before .args .cursor) (c .before .before .before .if1 .left) (c .before .if3 .left) (c .if4 .taken))
+returns-4 c =
+    let a = c .before .before .before .before .before .before .args in
+    sym (size-cut (a .section .now) (a .cursor) (c .before .before .before .if1 .left)
+    (c .before .if3 .left) (c .if4 .taken))
 
 shared-slice-read-wide16 : tie.Need-shared-slice-read-wide16
 shared-slice-read-wide16 c = search needs
@@ -36,8 +47,12 @@ add-t6 c = search needs
 
 returns-5 : tie.Need-returns-5
 returns-5 c =
-    ap (λ (n : ℕ). sizes.Found n (c .before .before .before .before .before .before .before .before .before .args .cursor .at + 1)) (c .wide32 .ensures .0 ∙ c .before .wide16 .ensures .0)
-    ∙ sym (size-byte (c .before .before .before .before .before .before .before .before .before .args .section .now) (c .before .before .before .before .before .before .before .before .before .args .cursor) (c .before .before .before .before .before .before .if1 .left) (c .before .before .before .before .if3 .left) (c .before .before .before .if4 .left))
+    let a = c .before .before .before .before .before .before .before .before .before .args in
+    ap (λ (n : ℕ). sizes.Found n (a .cursor .at + 1))
+    (c .wide32 .ensures .0 ∙ c .before .wide16 .ensures .0)
+    ∙ sym (size-byte (a .section .now) (a .cursor)
+    (c .before .before .before .before .before .before .if1 .left)
+    (c .before .before .before .before .if3 .left) (c .before .before .before .if4 .left))
 
 pub read-size-spec : {M : Type 1} → statement M
 read-size-spec =

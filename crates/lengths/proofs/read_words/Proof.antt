@@ -1,3 +1,5 @@
+-- `lengths::read_words` meets its contract. The loop's invariant: the words from
+-- `at` on, on top of `sum`, are the length from `start` on. Assumes nothing.
 use mathlib.Core.Path.{_≡_, sym, _∙_}
 use Prim.Native.Nat.{_+_, _-_, _%_, _≤_}
 use native.Mathlib.Omega.{arith}
@@ -5,7 +7,14 @@ use lib.ListN.{length}
 use borrow.Author.Tests.{ltb-false, not-true, not-false}
 use Rattle.dna.specs.RecordAt.{wordsFor}
 use Rattle.lengths.specs.Cursor.{wordsFrom}
-use Rattle.lengths.proofs.WordLaws.{restOfWords, words-cut, words-large, words-outside, words-last, words-more}
+use Rattle.lengths.proofs.WordLaws.{
+  restOfWords,
+  words-cut,
+  words-large,
+  words-outside,
+  words-last,
+  words-more,
+}
 use borrow.Author.Needs.{needs}
 use Rattle.lengths.proofs.read_words.Statement.{statement}
 use Rattle.lengths.proofs.read_words.Tie as tie
@@ -32,35 +41,54 @@ wide32-requires c κs = search needs
 
 returns : tie.Need-returns Inv-loop μ-loop
 returns c =
+    let l = c .before .before .before .before .before .loop in
+    let a = c .before .before .before .before .before .before .before .args in
+    let u16-at = c .before .before .u16-at in
     sym
-    (c .before .before .before .before .before .loop .inv .2
-    ∙ words-large (c .before .before .before .before .before .before .before .args .section .now) (c .before .before .before .before .before .loop .at) (c .before .before .before .before .before .loop .sum) (c .before .wide32 .result)
-    (c .before .wide32 .ensures .0 ∙ c .before .before .u16-at .ensures) (c .if2 .taken))
+    (l .inv .2
+    ∙ words-large (a .section .now) (l .at) (l .sum) (c .before .wide32 .result)
+    (c .before .wide32 .ensures .0 ∙ u16-at .ensures) (c .if2 .taken))
 
 add-if3 : tie.Need-add-if3 Inv-loop μ-loop
 add-if3 c = search needs
 
 returns-2 : tie.Need-returns-2 Inv-loop μ-loop
 returns-2 c =
+    let l = c .before .before .before .before .before .before .loop in
+    let a = c .before .before .before .before .before .before .before .before .args in
+    let wide32 = c .before .before .wide32 in
+    let u16-at = c .before .before .before .u16-at in
     sym
-    (c .before .before .before .before .before .before .loop .inv .2
-    ∙ words-outside (c .before .before .before .before .before .before .before .before .args .section .now) (c .before .before .before .before .before .before .loop .at) (c .before .before .before .before .before .before .loop .sum) (c .before .before .wide32 .result)
-    (c .before .before .wide32 .ensures .0 ∙ c .before .before .before .u16-at .ensures) (c .if3 .taken))
+    (l .inv .2
+    ∙ words-outside (a .section .now) (l .at) (l .sum) (wide32 .result)
+    (wide32 .ensures .0 ∙ u16-at .ensures) (c .if3 .taken))
 
 add-t10 : tie.Need-add-t10 Inv-loop μ-loop
 add-t10 c = search needs
 
 add-t11 : tie.Need-add-t11 Inv-loop μ-loop
 add-t11 c =
-    let h : c .before .before .before .before .before .before .before .loop .at + 2 ≤ length (c .before .before .before .before .before .before .before .before .before .args .section .now) = ltb-false _ _ (sym (c .before .before .before .before .before .before .cut-at .ensures) ∙ not-true _ (c .before .before .before .before .before .if1 .taken)) in
+    let l = c .before .before .before .before .before .before .before .loop in
+    let a = c .before .before .before .before .before .before .before .before .before .args in
+    let cut-at = c .before .before .before .before .before .before .cut-at in
+    let h : l .at + 2 ≤ length (a .section .now) = ltb-false _ _
+    (sym (cut-at .ensures) ∙ not-true _ (c .before .before .before .before .before .if1 .taken)) in
     search needs
 
 returns-3 : tie.Need-returns-3 Inv-loop μ-loop
 returns-3 c =
+    let l = c .before .before .before .before .before .before .before .loop in
+    let a = c .before .before .before .before .before .before .before .before .before .args in
+    let wide32 = c .before .before .before .wide32 in
+    let u16-at = c .before .before .before .before .u16-at in
+    let cut-at = c .before .before .before .before .before .before .cut-at in
     sym
-    (c .before .before .before .before .before .before .before .loop .inv .2
-    ∙ words-last (c .before .before .before .before .before .before .before .before .before .args .section .now) (c .before .before .before .before .before .before .before .loop .at) (c .before .before .before .before .before .before .before .loop .sum) (c .before .before .before .wide32 .result)
-    (c .before .before .before .wide32 .ensures .0 ∙ c .before .before .before .before .u16-at .ensures) (ltb-false _ _ (sym (c .before .before .before .before .before .before .cut-at .ensures) ∙ not-true _ (c .before .before .before .before .before .if1 .taken))) (c .if4 .taken)
+    (l .inv .2
+    ∙ words-last (a .section .now) (l .at) (l .sum) (wide32 .result)
+    (wide32 .ensures .0 ∙ u16-at .ensures)
+    (ltb-false _ _
+    (sym (cut-at .ensures) ∙ not-true _ (c .before .before .before .before .before .if1 .taken)))
+    (c .if4 .taken)
     (c .before .if3 .left))
 
 add-sum : tie.Need-add-sum Inv-loop μ-loop
@@ -68,29 +96,48 @@ add-sum c = search needs
 
 add-at : tie.Need-add-at Inv-loop μ-loop
 add-at c =
-    let h : c .before .before .before .before .before .before .before .loop .at + 2 ≤ length (c .before .before .before .before .before .before .before .before .before .args .section .now) = ltb-false _ _ (sym (c .before .before .before .before .before .before .cut-at .ensures) ∙ not-true _ (c .before .before .before .before .before .if1 .taken)) in
+    let l = c .before .before .before .before .before .before .before .loop in
+    let a = c .before .before .before .before .before .before .before .before .before .args in
+    let cut-at = c .before .before .before .before .before .before .cut-at in
+    let h : l .at + 2 ≤ length (a .section .now) = ltb-false _ _
+    (sym (cut-at .ensures) ∙ not-true _ (c .before .before .before .before .before .if1 .taken)) in
     search needs
 
 loop-less : tie.Need-loop-less Inv-loop μ-loop
 loop-less c =
-    let h : c .before .before .before .before .before .before .before .loop .at + 2 ≤ length (c .before .before .before .before .before .before .before .before .before .args .section .now) = ltb-false _ _ (sym (c .before .before .before .before .before .before .cut-at .ensures) ∙ not-true _ (c .before .before .before .before .before .if1 .taken)) in
+    let l = c .before .before .before .before .before .before .before .loop in
+    let a = c .before .before .before .before .before .before .before .before .before .args in
+    let cut-at = c .before .before .before .before .before .before .cut-at in
+    let h : l .at + 2 ≤ length (a .section .now) = ltb-false _ _
+    (sym (cut-at .ensures) ∙ not-true _ (c .before .before .before .before .before .if1 .taken)) in
     search needs
 
 loop-again : tie.Need-loop-again Inv-loop μ-loop
-loop-again c = (
-  omega arith,
-  omega arith,
-  c .before .before .before .before .before .before .before .loop .inv .2
-      ∙ words-more (c .before .before .before .before .before .before .before .before .before .args .section .now) (c .before .before .before .before .before .before .before .loop .at) (c .before .before .before .before .before .before .before .loop .sum) (c .before .before .before .wide32 .result)
-      (c .before .before .before .wide32 .ensures .0 ∙ c .before .before .before .before .u16-at .ensures) (ltb-false _ _ (sym (c .before .before .before .before .before .before .cut-at .ensures) ∙ not-true _ (c .before .before .before .before .before .if1 .taken))) (c .if4 .left)
-      (c .before .before .if2 .left) (c .before .if3 .left),
-)
+loop-again c =
+    let l = c .before .before .before .before .before .before .before .loop in
+    let a = c .before .before .before .before .before .before .before .before .before .args in
+    let wide32 = c .before .before .before .wide32 in
+    let u16-at = c .before .before .before .before .u16-at in
+    let cut-at = c .before .before .before .before .before .before .cut-at in (
+      omega arith,
+      omega arith,
+      l .inv .2
+          ∙ words-more (a .section .now) (l .at) (l .sum) (wide32 .result)
+          (wide32 .ensures .0 ∙ u16-at .ensures)
+          (ltb-false _ _
+          (sym (cut-at .ensures) ∙ not-true _ (c .before .before .before .before .before .if1 .taken)))
+          (c .if4 .left)
+          (c .before .before .if2 .left) (c .before .if3 .left),
+    )
 
 returns-4 : tie.Need-returns-4 Inv-loop μ-loop
 returns-4 c =
+    let l = c .before .before .loop in
+    let a = c .before .before .before .before .args in
     sym
-    (c .before .before .loop .inv .2
-    ∙ words-cut (c .before .before .before .before .args .section .now) (c .before .before .loop .at) (c .before .before .loop .sum) (sym (c .before .cut-at .ensures) ∙ not-false _ (c .if1 .left)))
+    (l .inv .2
+    ∙ words-cut (a .section .now) (l .at) (l .sum)
+    (sym (c .before .cut-at .ensures) ∙ not-false _ (c .if1 .left)))
 
 pub read-words-spec : {M : Type 1} → statement M
 read-words-spec =

@@ -1,3 +1,5 @@
+-- `lengths::section_sum` meets its contract. The loop's invariant: the sum so far and
+-- the lengths that the cursor still gives are the section's. Assumes nothing.
 use mathlib.Core.Path.{_≡_, sym, ap, _∙_}
 use Prim.Native.Nat.{ℕ, _+_, _-_, _*_, _≤_}
 use native.Mathlib.Omega.{arith}
@@ -6,7 +8,14 @@ use Rattle.lengths.specs.Given.{lengthsFound, lengthsSum}
 use Rattle.lengths.specs.declared.LengthStep.the-variants as steps
 use Rattle.lengths.specs.Cursor.{lengthStep, lengthsLeft}
 use Rattle.lengths.proofs.StepLaws.{step-ranged}
-use Rattle.lengths.proofs.NextLaws.{sumLeft, sum-first, sum-refused, sum-found, sum-ended, sum-unended}
+use Rattle.lengths.proofs.NextLaws.{
+  sumLeft,
+  sum-first,
+  sum-refused,
+  sum-found,
+  sum-ended,
+  sum-unended,
+}
 use borrow.Author.Needs.{needs}
 use Rattle.lengths.proofs.section_sum.Statement.{statement}
 use Rattle.lengths.proofs.section_sum.Tie as tie
@@ -15,7 +24,8 @@ abbrev Inv-loop : tie.InvT-loop
 Inv-loop section reads cursor₀ sum₀ i₀ cursor sum i =
     (i ≤ reads)
     × (sum ≤ 100000 * i)
-    × (lengthsSum (lengthsFound (sizesAnswer reads section)) ≡ sumLeft sum (lengthsLeft (reads - i) section cursor))
+    × (lengthsSum (lengthsFound (sizesAnswer reads section)) ≡ sumLeft sum
+    (lengthsLeft (reads - i) section cursor))
 
 abbrev μ-loop : tie.MeasureT-loop
 μ-loop section reads cursor₀ sum₀ i₀ cursor sum i = reads - i
@@ -24,12 +34,14 @@ first-cursor-requires : tie.Need-first-cursor-requires Inv-loop μ-loop
 first-cursor-requires c κs = search needs
 
 loop-holds : tie.Need-loop-holds Inv-loop μ-loop
-loop-holds c = (
-  omega arith,
-  omega arith,
-  sum-first (c .before .before .args .section .now) _ _ (c .before .before .args .reads) 0
-      (record { each = λ k h. omega (arith, c .before .shared-slice-known .given k) }) (omega arith) (c .first-cursor .ensures),
-)
+loop-holds c =
+    let a = c .before .before .args in (
+      omega arith,
+      omega arith,
+      sum-first (a .section .now) _ _ (a .reads) 0
+          (record { each = λ k h. omega (arith, c .before .shared-slice-known .given k) }) (omega arith)
+          (c .first-cursor .ensures),
+    )
 
 next-length-requires : tie.Need-next-length-requires Inv-loop μ-loop
 next-length-requires c κs = search needs
@@ -42,19 +54,27 @@ enum-told c = search needs
 
 returns : tie.Need-returns Inv-loop μ-loop
 returns c =
+    let l = c .before .before .before .before .loop in
+    let a = c .before .before .before .before .before .before .before .args in
+    let next-length = c .before .before .next-length in
     sym
-    (c .before .before .before .before .loop .inv .2
-    ∙ sum-refused (c .before .before .before .before .before .before .before .args .section .now) (c .before .before .before .before .loop .cursor) (c .before .before .before .before .loop .sum) (c .before .before .before .before .before .before .before .args .reads) (c .before .before .before .before .loop .i) (c .before .before .before .loop-test .taken)
-    (sym (c .before .before .next-length .ensures) ∙ c .enum-told .given .1))
+    (l .inv .2
+    ∙ sum-refused (a .section .now) (l .cursor) (l .sum) (a .reads) (l .i)
+    (c .before .before .before .loop-test .taken)
+    (sym (next-length .ensures) ∙ c .enum-told .given .1))
 
 wide64-requires : tie.Need-wide64-requires Inv-loop μ-loop
 wide64-requires c κs = search needs
 
 add-sum : tie.Need-add-sum Inv-loop μ-loop
 add-sum c =
-    let range : (1 ≤ c .before .before .size .given .0 .0) × (c .before .before .size .given .0 .0 ≤ 100000) =
-    step-ranged (c .before .before .before .before .before .before .before .before .before .args .section .now) (c .before .before .before .before .before .before .loop .cursor) (c .before .before .size .given .0 .0) (c .before .before .size .given .0 .1 .0)
-    (sym (c .before .before .before .before .next-length .ensures) ∙ c .before .before .size .given .1) in
+    let size = c .before .before .size in
+    let a = c .before .before .before .before .before .before .before .before .before .args in
+    let l = c .before .before .before .before .before .before .loop in
+    let next-length = c .before .before .before .before .next-length in
+    let range : (1 ≤ size .given .0 .0) × (size .given .0 .0 ≤ 100000) =
+    step-ranged (a .section .now) (l .cursor) (size .given .0 .0) (size .given .0 .1 .0)
+    (sym (next-length .ensures) ∙ size .given .1) in
     search needs
 
 add-i : tie.Need-add-i Inv-loop μ-loop
@@ -65,19 +85,24 @@ loop-less c = search needs
 
 loop-again : tie.Need-loop-again Inv-loop μ-loop
 loop-again c =
-    let e : lengthStep (c .before .before .before .before .before .before .before .before .before .args .section .now) (c .before .before .before .before .before .before .loop .cursor) ≡ steps.Found (c .before .before .size .given .0 .0) (c .before .before .size .given .0 .1 .0) =
-    sym (c .before .before .before .before .next-length .ensures) ∙ c .before .before .size .given .1 in
-    let range : (1 ≤ c .before .before .size .given .0 .0) × (c .before .before .size .given .0 .0 ≤ 100000) =
-    step-ranged (c .before .before .before .before .before .before .before .before .before .args .section .now) (c .before .before .before .before .before .before .loop .cursor) (c .before .before .size .given .0 .0) (c .before .before .size .given .0 .1 .0) e in (
+    let a = c .before .before .before .before .before .before .before .before .before .args in
+    let l = c .before .before .before .before .before .before .loop in
+    let size = c .before .before .size in
+    let next-length = c .before .before .before .before .next-length in
+    let e : lengthStep (a .section .now) (l .cursor) ≡ steps.Found (size .given .0 .0)
+    (size .given .0 .1 .0) =
+    sym (next-length .ensures) ∙ size .given .1 in
+    let range : (1 ≤ size .given .0 .0) × (size .given .0 .0 ≤ 100000) =
+    step-ranged (a .section .now) (l .cursor) (size .given .0 .0) (size .given .0 .1 .0) e in (
       omega arith,
       omega (arith, c .wide64 .ensures .0),
-      c .before .before .before .before .before .before .loop .inv .2
-          ∙ sum-found (c .before .before .before .before .before .before .before .before .before .args .section .now) (c .before .before .before .before .before .before .loop .cursor) (c .before .before .before .before .before .before .loop .sum) (c .before .before .before .before .before .before .before .before .before .args .reads) (c .before .before .before .before .before .before .loop .i) (c .before .before .size .given .0 .0)
-          (c .before .before .size .given .0 .1 .0) (c .before .before .before .before .before .loop-test .taken) e
+      l .inv .2
+          ∙ sum-found (a .section .now) (l .cursor) (l .sum) (a .reads) (l .i) (size .given .0 .0)
+          (size .given .0 .1 .0) (c .before .before .before .before .before .loop-test .taken) e
           ∙ ap
           (λ (n : ℕ).
-          sumLeft (c .before .before .before .before .before .before .loop .sum + n)
-          (lengthsLeft (c .before .before .before .before .before .before .before .before .before .args .reads - (c .before .before .before .before .before .before .loop .i + 1)) (c .before .before .before .before .before .before .before .before .before .args .section .now) (c .before .before .size .given .0 .1 .0)))
+          sumLeft (l .sum + n)
+          (lengthsLeft (a .reads - (l .i + 1)) (a .section .now) (size .given .0 .1 .0)))
           (sym (c .wide64 .ensures .0)),
     )
 
@@ -86,16 +111,22 @@ cursor-ended-requires c κs = search needs
 
 returns-2 : tie.Need-returns-2 Inv-loop μ-loop
 returns-2 c =
+    let l = c .before .before .before .loop in
+    let a = c .before .before .before .before .before .before .args in
     sym
-    (c .before .before .before .loop .inv .2
-    ∙ sum-ended (c .before .before .before .before .before .before .args .section .now) (c .before .before .before .loop .cursor) (c .before .before .before .loop .sum) (c .before .before .before .before .before .before .args .reads) (c .before .before .before .loop .i) (c .before .before .loop-test .left)
+    (l .inv .2
+    ∙ sum-ended (a .section .now) (l .cursor) (l .sum) (a .reads) (l .i)
+    (c .before .before .loop-test .left)
     (sym (c .before .cursor-ended .ensures) ∙ c .if1 .taken))
 
 returns-3 : tie.Need-returns-3 Inv-loop μ-loop
 returns-3 c =
+    let l = c .before .before .before .loop in
+    let a = c .before .before .before .before .before .before .args in
     sym
-    (c .before .before .before .loop .inv .2
-    ∙ sum-unended (c .before .before .before .before .before .before .args .section .now) (c .before .before .before .loop .cursor) (c .before .before .before .loop .sum) (c .before .before .before .before .before .before .args .reads) (c .before .before .before .loop .i) (c .before .before .loop-test .left)
+    (l .inv .2
+    ∙ sum-unended (a .section .now) (l .cursor) (l .sum) (a .reads) (l .i)
+    (c .before .before .loop-test .left)
     (sym (c .before .cursor-ended .ensures) ∙ c .if1 .left))
 
 pub section-sum-spec : {M : Type 1} → statement M
