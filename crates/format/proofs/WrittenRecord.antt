@@ -352,7 +352,7 @@ module _ (bases : ℕ) (reference : List ℕ) (previous : ℕ) (codes : List ℕ
       by-test (stepFits previous candidate)
       (λ t.
       let step = and-both (leb previous (candidate .position)) _ t in
-      let small : candidate .position - previous ≤ 65535 = leb-true (candidate .position - previous) 65535 (step .1) in
+      let small = leb-true (candidate .position - previous) _ (step .1) in
       rw (e, t) (omega arith))
       (λ t. rw (e, t) (omega (arith, fits .position)))
 
