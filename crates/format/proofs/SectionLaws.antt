@@ -4,7 +4,7 @@ use mathlib.Core.Path.{_≡_, refl, sym, ap, ap₂, _∙_}
 use Prim.Native.Nat.{ℕ, suc, _+_, _-_, _*_, _≤_, _<_}
 use native.Mathlib.Omega.{arith}
 use mathlib.Core.Bool.{true, false}
-use mathlib.Core.List.{List}
+use mathlib.Core.List.{List, []}
 use lib.ListN.{length, getD, take, drop, length-drop, List·getD-eq-default}
 use lib.Seq.{take-all, length-take-le}
 use lib.IntN.{ℤ, pos, negsuc}
@@ -219,3 +219,25 @@ span-empty input number index size accepted same sized none =
     let long : size ≡ sectionLength (headerOf input) number =
     sized ∙ ap (sectionLength (headerOf input)) same in
     rw (← long) (simp (accepted, eq-eqb size 0 none))
+
+-- Its answer is empty.
+pub answer-empty : (input : List ℕ) (number index size : ℕ) → headerRefused input ≡ false
+    → index ≡ number → size ≡ sectionLength (headerOf input) index → size ≡ 0
+    → sectionAnswer input number ≡ []
+unfolding sectionAnswer sectionOf
+answer-empty input number index size accepted same sized none =
+    let long : sectionLength (headerOf input) number ≡ 0 =
+    sym (sized ∙ ap (sectionLength (headerOf input)) same) ∙ none in
+    simp (accepted, long)
+
+-- So it is where the header is refused.
+pub answer-refused : (input : List ℕ) (number : ℕ) → headerRefused input ≡ true
+    → sectionAnswer input number ≡ []
+unfolding sectionAnswer
+answer-refused input number refused = simp refused
+
+-- Nor has a refused header a span.
+pub span-refused : (input : List ℕ) (number : ℕ) → headerRefused input ≡ true
+    → record { offset = 0; size = 0 } ≡ spanAnswer input number
+unfolding spanAnswer
+span-refused input number refused = simp refused

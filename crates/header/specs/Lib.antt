@@ -1,2 +1,3 @@
 pub mod TableFaults
 pub mod WrittenHeader
+pub mod Part

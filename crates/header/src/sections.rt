@@ -8,6 +8,7 @@ use integers::u32_at;
 ghost use mathlib.Core.Path.{_≡_};
 ghost use Prim.Native.Nat.{_*_, _≤_, _<_, _^_};
 ghost use lib.ListN.{length, take};
+ghost use mathlib.Core.List.{[]};
 ghost use Rattle.base.specs.Lists.{total};
 ghost use Rattle.format.specs.Header.{tableLength, headerOf};
 ghost use Rattle.format.specs.Sections.{
@@ -16,7 +17,8 @@ ghost use Rattle.format.specs.Sections.{
   sectionLength,
   blockLength,
 };
-ghost use Rattle.format.specs.BlockAnswer.{sectionAnswer};
+ghost use Rattle.format.specs.BlockAnswer.{sectionAnswer, spanAnswer};
+ghost use Rattle.header.specs.Part.{BeginsAt};
 
 // How many sections a block has.
 pub const SECTIONS: usize = 9;
@@ -24,15 +26,26 @@ pub const SECTIONS: usize = 9;
 // The section that is asked for, the very part of the block; empty if the number is above 8 or the
 // header earns 2 to 8.
 pub fn section(input: &[u8], number: u64) -> &[u8]
-    ensures { λ r. ⌜ now r ≡ sectionAnswer (now (input .entry)) number ⌝ }
+    ensures { λ r. ⌜ (now r ≡ sectionAnswer (now (input .entry)) number)
+        × BeginsAt (input .entry) r (spanAnswer (now (input .entry)) number .offset) ⌝ }
 {
     if header_fault(input) != 0 {
-        return &input[..0];
+        return empty_part(input);
     }
     let index = size64(number);
-    let start = section_start(input, index);
     let size = section_length(input, index);
+    if size == 0 {
+        return empty_part(input);
+    }
+    let start = section_start(input, index);
     &input[start..start + size]
+}
+
+// The empty part at the start.
+fn empty_part(input: &[u8]) -> &[u8]
+    ensures { λ r. ⌜ (now r ≡ []) × BeginsAt (input .entry) r 0 ⌝ }
+{
+    &input[..0]
 }
 
 // Where section `number` starts; above 8, where the block ends.

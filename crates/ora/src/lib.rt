@@ -8,6 +8,7 @@ use header::sections;
 use integers::size64;
 ghost use mathlib.Core.Path.{_≡_};
 ghost use Rattle.format.specs.BlockAnswer.{sectionAnswer, spanAnswer, idAnswer};
+ghost use Rattle.header.specs.Part.{BeginsAt};
 ghost use Rattle.ora.specs.Answers.{spanOf};
 
 // Where a section stands in the block, in bytes.
@@ -16,10 +17,11 @@ pub struct Span {
     pub size: u64,
 }
 
-// The section that is asked for, the very part of the block; empty if the number is above 8 or the
-// header earns one of 2 to 8.
+// The section that is asked for; empty if the number is above 8 or the header earns one of 2 to 8. It
+// is the very part of the block that section_span says, no copy (specs/Part.antt of header).
 pub fn section(input: &[u8], number: u64) -> &[u8]
-    ensures { λ r. ⌜ now r ≡ sectionAnswer (now (input .entry)) number ⌝ }
+    ensures { λ r. ⌜ (now r ≡ sectionAnswer (now (input .entry)) number)
+        × BeginsAt (input .entry) r (spanAnswer (now (input .entry)) number .offset) ⌝ }
 {
     sections::section(input, number)
 }
