@@ -1,7 +1,8 @@
 # make run: lists the shipped sample. make test: the gate; it needs only the Rattle toolchain.
 # make second: the tests of the second implementation; it needs cargo.
 # make corpus: makes its cases in crates/corpus again (rust/second/CORPUS.md); it needs cargo.
-# make bench: measures the writers of a stretch (docs/BENCHMARK.md); it needs cargo, and x86-64.
+# make bench: measures the writers of a stretch and the walk over the lengths (docs/BENCHMARK.md); it needs cargo,
+# and x86-64.
 .PHONY: run test second corpus bench
 run:
 	@echo "make run: the listing program is not part of this version yet; 'make test' checks what is" >&2; exit 2

@@ -1,5 +1,9 @@
-// The writers of a stretch under plain names, for the benchmark alone (rust/bench). A caller that is not Rattle
-// owes what each `requires` says: the benchmark makes its tables by bench_fill_words and its stretches inside.
+// The writers of a stretch, the walk over the lengths and the writer of a size section under plain names, for the
+// benchmark alone (rust/bench). A caller that is not Rattle owes what each `requires` says: the benchmark makes its
+// tables by bench_fill_words, its stretches inside, and room by bench_sizes_length for at most 50,000 reads.
+use lengths::lengths_fault;
+use lengths::write::put_sizes;
+use lengths::write::sizes_length;
 use reference::fill_words;
 use reference::put_stretch_forward;
 use reference::put_stretch_reverse;
@@ -7,8 +11,13 @@ ghost use mathlib.Core.Path.{_≡_};
 ghost use mathlib.Core.Bool.{true, false};
 ghost use Prim.Native.Nat.{_+_, _≤_};
 ghost use lib.ListN.{length};
+ghost use Rattle.base.specs.Numbers.{nonNegative};
 ghost use Rattle.base.specs.Paste.{pasted};
 ghost use Rattle.dna.specs.Reference.{stretchLetters};
+ghost use Rattle.dna.specs.Sizes.{sizeSectionBytes};
+ghost use Rattle.format.specs.HeaderFaults.{maxReads};
+ghost use Rattle.lengths.specs.Form.{storedOf};
+ghost use Rattle.lengths.specs.Given.{lengthsGiven, lengthsFound, lengthsNumber};
 ghost use Rattle.reference.specs.Stretch.{StretchFits};
 ghost use Rattle.reference.specs.Tables.{wordTable};
 
@@ -48,4 +57,37 @@ pub extern "C" fn bench_put_stretch_reverse(
     ensures { λ _. ⌜ now (out .exit) ≡ pasted (now (out .entry)) at (stretchLetters (now (reference .entry)) false leftmost bases) ⌝ }
 {
     put_stretch_reverse(reference, leftmost, bases, table, out, at);
+}
+
+#[no_mangle]
+pub extern "C" fn bench_lengths_fault(
+    section: &[u8],
+    fixed: bool,
+    each: i32,
+    reads: u32,
+    raw: u32,
+) -> u32
+    ensures { λ r. ⌜ r ≡ lengthsNumber raw
+        (lengthsFound (lengthsGiven fixed (nonNegative each) reads (now (section .entry)))) ⌝ }
+{
+    lengths_fault(section, fixed, each, reads, raw)
+}
+
+#[no_mangle]
+pub extern "C" fn bench_sizes_length(ends: &[u32]) -> usize
+    requires { ⌜ length (now ends) ≤ maxReads ⌝ }
+    ensures { λ r. ⌜ r ≡ length (sizeSectionBytes (storedOf (now (ends .entry)))) ⌝ }
+{
+    sizes_length(ends)
+}
+
+#[no_mangle]
+pub extern "C" fn bench_put_sizes(ends: &[u32], out: &mut [u8], at: usize) -> usize
+    requires { ⌜ length (now ends) ≤ maxReads ⌝ }
+    requires { ⌜ at + length (sizeSectionBytes (storedOf (now ends))) ≤ length (now out) ⌝ }
+    ensures { λ r. ⌜ (now (out .exit) ≡ pasted (now (out .entry)) at
+        (sizeSectionBytes (storedOf (now (ends .entry)))))
+        × (r ≡ at + length (sizeSectionBytes (storedOf (now (ends .entry))))) ⌝ }
+{
+    put_sizes(ends, out, at)
 }

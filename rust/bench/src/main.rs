@@ -1,6 +1,7 @@
 //! Measures the proved writers of a stretch against a plain loop, the best unsafe Rust that we can write and a
 //! memory copy of the same letters. All are compared for equality before anything is timed. The table is of
-//! speeds, as ratios: the plain loop is 1.
+//! speeds, as ratios: the plain loop is 1. A second table is of the walk over the lengths of reads (lengths.rs).
+mod lengths;
 mod writers;
 
 use std::hint::black_box;
@@ -163,4 +164,6 @@ fn main() {
             times.iter().map(|time| time[2] / time[1]),
         );
     }
+    println!();
+    lengths::print_table(random);
 }
