@@ -1,6 +1,6 @@
 -- Laws of numbers in bytes. Assumes nothing.
-use mathlib.Core.Path.{_≡_, refl, sym, ap, ap₂, _∙_, subst}
-use Prim.Native.Nat.{ℕ, zero, suc, _+_, _-_, _*_, _/_, _%_, _^_, _≤_, _<_}
+use mathlib.Core.Path.{_≡_, refl, sym, ap, ap₂, _∙_}
+use Prim.Native.Nat.{ℕ, zero, suc, _+_, _*_, _/_, _%_, _^_, _≤_, _<_}
 use native.Mathlib.Nat.{
   zero-add,
   add-zero,
@@ -21,10 +21,10 @@ use native.Mathlib.Nat.{
   zero-lt-suc,
 }
 use native.Mathlib.Omega.{arith}
-use mathlib.Core.List.{List, [], _∷_, _++_}
+use mathlib.Core.List.{List, _∷_, _++_}
 use lib.ListN.{length, getD}
 use lib.Arith.{digits-div, mod-mul}
-use Rattle.base.specs.Lists.{Below, AllBytes}
+use Rattle.base.specs.Lists.{AllBytes}
 use Rattle.base.specs.Numbers.{le, leBytes}
 use Rattle.base.specs.Place.{At}
 use Rattle.base.specs.Paste.{pasted}

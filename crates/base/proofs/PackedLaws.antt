@@ -1,37 +1,14 @@
 -- Laws of packed symbols, over every base and number of symbols a byte. Assumes nothing.
 use mathlib.Core.Path.{_≡_, refl, sym, ap, ap₂, _∙_, subst}
 use Prim.Native.Nat.{ℕ, zero, suc, _+_, _-_, _*_, _/_, _%_, _^_, _≤_, _<_}
-use native.Mathlib.Nat.{
-  not-suc-le-zero,
-  pow-zero,
-  pow-suc,
-  pow-succ',
-  div-one,
-  div-div-eq-div-mul,
-  div-add-mod',
-  div-lt-iff-lt-mul,
-  le-div-iff-mul-le,
-  div-mul-le-self,
-  mul-div-cancel,
-  mod-lt,
-  mod-eq-of-lt,
-  suc-mul,
-  mul-zero,
-  mul-suc,
-  one-mul,
-  add-mul,
-  add-mul-div-right,
-  add-mul-mod-self-right,
-  mul-le-mul-right,
-  zero-add,
-}
+use native.Mathlib.Nat.{not-suc-le-zero, pow-zero, pow-suc, pow-succ', div-one, div-div-eq-div-mul, div-add-mod', div-lt-iff-lt-mul, le-div-iff-mul-le, div-mul-le-self, mod-lt, mod-eq-of-lt, suc-mul, mul-zero, mul-suc, one-mul, add-mul, add-mul-div-right, add-mul-mod-self-right, mul-le-mul-right, zero-add}
 use native.Mathlib.Omega.{arith}
-use mathlib.Core.List.{List, [], _∷_, _++_}
-use lib.ListN.{length, getD, length-append}
+use mathlib.Core.List.{List, _++_}
+use lib.ListN.{length, getD}
 use lib.Seq.{ext-getD}
 use lib.Pow.{pow-add, pow-lt, pow-pos}
 use lib.Arith.{digits-lt, digits-div, digits-mod}
-use Rattle.base.specs.Lists.{build, part, Below}
+use Rattle.base.specs.Lists.{build, Below}
 use Rattle.base.specs.Packed.{digit, byteOf, packedLength, symbolAt, pack, symbolsAt}
 use Rattle.base.specs.Place.{At}
 use Rattle.base.proofs.ListLaws.{

@@ -3,14 +3,13 @@ use mathlib.Core.Path.{_≡_, refl, sym, ap, ap₂, _∙_, subst}
 use Prim.Native.Nat.{ℕ, zero, suc, _+_, _-_, _≤_, _<_}
 use native.Mathlib.Omega.{arith}
 use native.Mathlib.Nat.{zero-add}
-use mathlib.Core.Bool.{Bool, true, false, cond, _||_}
+use mathlib.Core.Bool.{Bool, false, _||_}
 use mathlib.Core.List.{List, [], _∷_}
 use lib.ListN.{length}
-use lib.Dec.{eqb}
-use borrow.Author.Tests.{eqb-true, eq-eqb, ne-eqb}
+use borrow.Author.Tests.{eq-eqb, ne-eqb}
 use Rattle.base.specs.Lists.{build, any, member, keep, placesWhere, placesFrom, stepsFrom}
 use Rattle.base.proofs.ListLaws.{by-order, by-test, build-cong}
-use Rattle.base.proofs.Tests.{or-neither, neither-or, or-right}
+use Rattle.base.proofs.Tests.{or-neither, neither-or}
 
 -- The n numbers from s on.
 unfoldable pub countUp : (s n : ℕ) → List ℕ

@@ -1,13 +1,13 @@
 -- Running a scan, and taking one apart that found something. Assumes nothing.
-use mathlib.Core.Path.{_≡_, refl, sym, ap, _∙_}
+use mathlib.Core.Path.{_≡_, refl}
 use Prim.Native.Nat.{ℕ}
 use native.Mathlib.Omega.{arith}
 use mathlib.Core.Bool.{Bool, true, false, cond, _||_}
 use mathlib.Core.List.{List, [], _∷_}
 use Rattle.base.specs.Lists.{any}
-use Rattle.base.specs.Faults.{Fault, fault, NoneFits}
+use Rattle.base.specs.Faults.{Fault, NoneFits}
 use Rattle.base.specs.Scan.{Scan, found, refused, checked, andThen}
-use Rattle.base.proofs.Tests.{or-neither, neither-or}
+use Rattle.base.proofs.Tests.{or-neither}
 
 pub found-same : {A : Type 0} {a b : A} {i j : ℕ} → found a i ≡ found b j → (a ≡ b) × (i ≡ j)
 found-same e = (cc, cc)

@@ -1,19 +1,18 @@
 -- Entries run along the read as printed (01, Records: offsets run along the read as printed): on either strand
 -- the letter at an entry's place is that entry's. Assumes nothing.
-use mathlib.Core.Path.{_≡_, refl, sym, ap, _∙_}
-use Prim.Native.Nat.{ℕ, zero, suc, _+_, _-_, _≤_, _<_}
+use mathlib.Core.Path.{_≡_}
+use Prim.Native.Nat.{ℕ, _+_, _-_, _<_}
 use native.Mathlib.Omega.{arith}
-use mathlib.Core.Bool.{Bool, true, false, cond, _||_}
-use mathlib.Core.List.{List, [], _∷_, map}
+use mathlib.Core.Bool.{true, false}
+use mathlib.Core.List.{List, map}
 use lib.ListN.{length, getD, length-map}
-use lib.Dec.{leb, ltb, eqb}
 use borrow.Author.Tests.{lt-ltb, le-ltb}
-use Rattle.base.specs.Lists.{any, member, indexOf, placesFrom}
+use Rattle.base.specs.Lists.{placesFrom}
 use Rattle.base.proofs.Tests.{or-neither}
-use Rattle.dna.specs.Record.{ReadContext, Entry, RecordFields}
+use Rattle.dna.specs.Record.{ReadContext, RecordFields}
 use Rattle.dna.specs.Alignment.{isAligned, entriesOf, leftOf, alignedLength, referenceIndex, entryPlaces}
-use Rattle.dna.specs.RecordFaults.{laterZero, anyOutside, entryOffsetInvalid}
-use Rattle.dna.specs.Letters.{Cause, entryCode, alignedCause, fieldsCause}
+use Rattle.dna.specs.RecordFaults.{laterZero, entryOffsetInvalid}
+use Rattle.dna.specs.Letters.{entryCode, alignedCause, fieldsCause}
 use Rattle.dna.proofs.OffsetLaws.{Steps, tests-steps, length-placesFrom, place-inside, indexOf-place, member-getD}
 
 -- Where 17 does not fit, the letter at the place of entry `number` comes from that entry.

@@ -1,21 +1,21 @@
 -- Entries, packed codes and N lists are read back where they stand, and what is read stands there. Assumes nothing.
 use mathlib.Core.Path.{_≡_, refl, sym, ap, ap₂, _∙_, subst}
-use Prim.Native.Nat.{ℕ, zero, suc, _+_, _-_, _*_, _/_, _%_, _^_, _≤_, _<_}
+use Prim.Native.Nat.{ℕ, zero, suc, _+_, _-_, _*_, _^_, _≤_, _<_}
 use native.Mathlib.Nat.{div-add-mod'}
 use native.Mathlib.Omega.{arith}
-use mathlib.Core.Bool.{Bool, true, false, cond, _||_}
+use mathlib.Core.Bool.{false, _||_}
 use mathlib.Core.List.{List, [], _∷_, _++_, map, flatMap}
 use lib.ListN.{length, getD, length-append, length-map, List·getD-map, List·getD-append}
 use lib.Seq.{ext-getD, getD-append-add}
-use lib.Dec.{leb, ltb, eqb}
+use lib.Dec.{leb}
 use lib.Arith.{digits-div, digits-mod}
-use borrow.Author.Tests.{ltb-true, leb-true, eqb-true, eqb-false, ltb-false, leb-false, lt-ltb, le-leb, le-ltb, lt-leb, eq-eqb, ne-eqb}
-use Rattle.base.specs.Lists.{build, any, member, placesFrom, Below, AllBytes, All}
+use borrow.Author.Tests.{ltb-false, leb-false, le-ltb, lt-leb}
+use Rattle.base.specs.Lists.{any, Below, AllBytes, All}
 use Rattle.base.specs.Packed.{packedLength, pack, symbolsAt}
 use Rattle.base.specs.Place.{At}
-use Rattle.base.specs.Scan.{Scan, found, refused, checked, andThen}
+use Rattle.base.specs.Scan.{found}
 use Rattle.base.proofs.ListLaws.{length-build, getD-build, below-at, below-append, all-getD, all-build}
-use Rattle.base.proofs.PlaceLaws.{at-left, at-right, at-both, at-head, at-tail, at-cons, at-nil, at-to}
+use Rattle.base.proofs.PlaceLaws.{at-left, at-right, at-both, at-head, at-tail, at-cons, at-nil}
 use Rattle.base.proofs.PackedLaws.{
   length-pack,
   length-symbolsAt,
@@ -27,7 +27,7 @@ use Rattle.base.proofs.PackedLaws.{
   symbolsAt-append,
 }
 use Rattle.base.proofs.Tests.{or-neither, neither-or}
-use Rattle.base.proofs.ScanLaws.{found-same, absurd-found, checked-none, checked-found, andThen-found, andThen-parts}
+use Rattle.base.proofs.ScanLaws.{found-same, checked-none, checked-found, andThen-found, andThen-parts}
 use Rattle.dna.specs.Varint16.{varint16Bytes}
 use Rattle.dna.specs.Record.{
   ReadContext,
@@ -40,7 +40,7 @@ use Rattle.dna.specs.Record.{
   nListBytes,
 }
 use Rattle.dna.specs.Alignment.{nPositions}
-use Rattle.dna.specs.RecordFaults.{laterZero, anyOutside, nCountInvalid, nListInvalid}
+use Rattle.dna.specs.RecordFaults.{laterZero, nCountInvalid, nListInvalid}
 use Rattle.dna.specs.RecordAt.{entryOf, entriesAt, packedAt, varint16At, wordsFor, offsetsAt, nListAt}
 use Rattle.dna.proofs.OffsetLaws.{Steps, tests-steps, steps-tests}
 use Rattle.dna.proofs.VarintLaws.{varint16-find, Varint, varint16-found}

@@ -1,14 +1,14 @@
 -- Offsets that are 0 at most at the first and land inside a bound: the tests of 17 and 20, and the same offset
 -- by offset. Assumes nothing.
-use mathlib.Core.Path.{_≡_, refl, sym, ap, _∙_}
+use mathlib.Core.Path.{_≡_, refl, ap}
 use Prim.Native.Nat.{ℕ, zero, suc, _+_, _≤_, _<_}
 use native.Mathlib.Omega.{arith}
 use native.Mathlib.Nat.{not-suc-le-zero, le-of-suc-le-suc}
-use mathlib.Core.Bool.{Bool, true, false, cond, _||_}
+use mathlib.Core.Bool.{true, false}
 use mathlib.Core.List.{List, [], _∷_}
 use lib.ListN.{length, getD}
-use lib.Dec.{leb, ltb, eqb}
-use borrow.Author.Tests.{ltb-true, leb-true, eqb-true, eqb-false, lt-ltb, le-leb, lt-leb, leb-false, eq-eqb, ne-eqb}
+use lib.Dec.{leb, eqb}
+use borrow.Author.Tests.{eqb-false, lt-leb, leb-false, eq-eqb, ne-eqb}
 use Rattle.base.specs.Lists.{any, member, indexOf, placesFrom}
 use Rattle.base.proofs.Tests.{or-neither, neither-or, or-right}
 use Rattle.dna.specs.RecordFaults.{laterZero, anyOutside}

@@ -1,6 +1,6 @@
 -- One division: the rules determine where every record begins and ends, its kind and its fields (01, The desk's
 -- material: two divisions are the same if they agree in every cut, kind and field). Assumes nothing.
-use mathlib.Core.Path.{_≡_, sym, _∙_}
+use mathlib.Core.Path.{sym, _∙_}
 use Prim.Native.Nat.{ℕ}
 use mathlib.Core.List.{List}
 use Rattle.dna.specs.Division.{Division, SameDivision, Divides}

@@ -1,19 +1,18 @@
 -- A record that meets the rules is found where it stands, as exactly that record with exactly its length. All
 -- five kinds, with and without N list. Assumes nothing.
-use mathlib.Core.Path.{_≡_, refl, sym, ap, ap₂, _∙_, subst}
-use Prim.Native.Nat.{ℕ, zero, suc, _+_, _-_, _*_, _/_, _%_, _^_, _≤_, _<_}
+use mathlib.Core.Path.{_≡_, refl, sym, ap, ap₂, _∙_}
+use Prim.Native.Nat.{ℕ, _+_, _*_, _/_, _%_}
 use native.Mathlib.Omega.{arith}
-use mathlib.Core.Bool.{Bool, true, false, cond, not, _&&_, _||_}
+use mathlib.Core.Bool.{Bool, true, false, cond, not, _&&_}
 use mathlib.Core.List.{List, [], _∷_, _++_, map}
 use lib.ListN.{length, getD, length-append}
-use lib.Dec.{leb, ltb, eqb}
 use borrow.Author.Tests.{le-ltb, lt-leb, eq-eqb, ne-eqb}
 use Rattle.base.specs.Lists.{any}
 use Rattle.base.specs.Numbers.{le, leBytes}
 use Rattle.base.specs.Packed.{digit, bit}
 use Rattle.base.specs.Faults.{Fault, fault, NoneFits}
 use Rattle.base.specs.Place.{At}
-use Rattle.base.specs.Scan.{Scan, found, refused, checked, andThen}
+use Rattle.base.specs.Scan.{found}
 use Rattle.base.proofs.PlaceLaws.{at-left, at-right, at-head, at-tail, at-to}
 use Rattle.base.proofs.NumberLaws.{length-leBytes, le-leBytes}
 use Rattle.base.proofs.Tests.{or-neither, neither-or, any-append}

@@ -1,24 +1,24 @@
 -- What is found at a place meets the rules and has the bytes that stand there. Assumes nothing.
 use mathlib.Core.Path.{_≡_, refl, sym, ap, ap₂, _∙_, subst}
-use Prim.Native.Nat.{ℕ, zero, suc, _+_, _-_, _*_, _/_, _%_, _^_, _≤_, _<_}
+use Prim.Native.Nat.{ℕ, _+_, _*_, _/_, _%_, _≤_}
 use native.Mathlib.Nat.{div-one, div-div-eq-div-mul, div-add-mod'}
 use native.Mathlib.Omega.{arith}
 use mathlib.Core.Bool.{Bool, true, false, cond, not, _&&_, _||_}
 use mathlib.Core.List.{List, [], _∷_, _++_, map}
 use lib.ListN.{length, getD, length-append}
 use lib.Dec.{leb, ltb, eqb}
-use borrow.Author.Tests.{ltb-false, leb-false, eqb-true, eqb-false}
+use borrow.Author.Tests.{ltb-false, eqb-true, eqb-false}
 use Rattle.base.specs.Lists.{any, AllBytes}
 use Rattle.base.specs.Numbers.{le, leBytes}
 use Rattle.base.specs.Packed.{digit, bit, packedLength}
 use Rattle.base.specs.Faults.{NoneFits}
 use Rattle.base.specs.Place.{At}
-use Rattle.base.specs.Scan.{Scan, found, refused, checked, andThen}
+use Rattle.base.specs.Scan.{found}
 use Rattle.base.proofs.ListLaws.{by-test, below-at}
 use Rattle.base.proofs.PlaceLaws.{at-both, at-cons, at-nil, at-to}
 use Rattle.base.proofs.NumberLaws.{length-leBytes, le-below, leBytes-le}
-use Rattle.base.proofs.Tests.{or-neither, neither-or, or-right, and-first}
-use Rattle.base.proofs.ScanLaws.{found-same, absurd-found, checked-found, andThen-parts, cond-parts, cond-yes, cond-no}
+use Rattle.base.proofs.Tests.{or-neither, or-right, and-first}
+use Rattle.base.proofs.ScanLaws.{found-same, checked-found, andThen-parts, cond-parts, cond-yes, cond-no}
 use Rattle.dna.specs.Record.{
   ReadContext,
   Entry,
@@ -56,18 +56,8 @@ use Rattle.dna.specs.RecordAt.{
   nListAt,
   recordAt,
 }
-use Rattle.dna.proofs.FieldLaws.{
-  length-entries,
-  length-entriesAt,
-  entries-entriesAt,
-  entriesAt-fit,
-  packedAt-fits,
-  length-packed,
-  packed-packedAt,
-  NList,
-  nList-found,
-}
-use Rattle.dna.proofs.RecordFinds.{Faultless, parts-faults}
+use Rattle.dna.proofs.FieldLaws.{length-entries, length-entriesAt, entries-entriesAt, entriesAt-fit, packedAt-fits, length-packed, packed-packedAt, nList-found}
+use Rattle.dna.proofs.RecordFinds.{parts-faults}
 
 -- What was found up to the N list.
 pub record FieldsFound (context : ReadContext) (list : List ℕ) (at : ℕ) (fields : RecordFields) (next : ℕ) : Type 0 where

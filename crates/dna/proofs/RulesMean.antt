@@ -1,61 +1,22 @@
 -- What it means that none of 13 to 20 fits a record (01, Records): the rules as propositions, one for each sentence.
 -- Assumes nothing.
-use mathlib.Core.Path.{_≡_, refl, sym, ap, _∙_, subst}
-use Prim.Native.Nat.{ℕ, zero, suc, _+_, _*_, _/_, _%_, _≤_, _<_}
+use mathlib.Core.Path.{_≡_, refl, ap, _∙_}
+use Prim.Native.Nat.{ℕ, suc, _+_, _*_, _/_, _%_, _≤_, _<_}
 use native.Mathlib.Omega.{arith}
-use native.Mathlib.Nat.{not-suc-le-zero, le-of-suc-le-suc}
 use mathlib.Core.Bool.{Bool, true, false, not, _&&_, _||_, Bool·beq}
 use mathlib.Core.Logic.{_↔_}
 use mathlib.Core.List.{List, [], _∷_, map}
-use lib.ListN.{length, getD}
-use lib.Dec.{leb, ltb, eqb}
-use borrow.Author.Tests.{ltb-true, ltb-false, leb-false, eqb-true, eqb-false, lt-ltb, le-ltb, lt-leb, eq-eqb, ne-eqb}
+use lib.ListN.{length}
+use lib.Dec.{ltb, eqb}
+use borrow.Author.Tests.{ltb-false, leb-false, eqb-true, eqb-false, le-ltb, lt-leb, eq-eqb, ne-eqb}
 use Rattle.base.specs.Lists.{any, member, Below}
 use Rattle.base.specs.Packed.{bit, digit}
 use Rattle.base.specs.Faults.{NoneFits}
 use Rattle.base.proofs.ListLaws.{by-test, below-nil, below-cons}
-use Rattle.base.proofs.Tests.{
-  absurd-test,
-  or-neither,
-  neither-or,
-  and-first,
-  not-false,
-  true-not,
-  beq-same,
-  same-beq,
-}
-use Rattle.dna.specs.Record.{
-  ReadContext,
-  Entry,
-  RecordFields,
-  perfect,
-  global,
-  local,
-  raw,
-  raw4,
-  StoredRecord,
-  flagByteOf,
-  hasNList,
-}
+use Rattle.base.proofs.Tests.{or-neither, neither-or, and-first, not-false, true-not, beq-same, same-beq}
+use Rattle.dna.specs.Record.{ReadContext, RecordFields, perfect, global, local, raw, raw4, StoredRecord, flagByteOf, hasNList}
 use Rattle.dna.specs.Alignment.{isAligned, entriesOf, alignedLength, leftmostOf, entryPlaces, nPositions}
-use Rattle.dna.specs.RecordFaults.{
-  raw4Codes,
-  paddingOf,
-  rawBitStray,
-  recordFlagInvalid,
-  spanOutside,
-  clipsInvalid,
-  laterZero,
-  anyOutside,
-  entryOffsetInvalid,
-  baseCodeInvalid,
-  paddingNonzero,
-  raw4BitWrong,
-  nCountInvalid,
-  nListInvalid,
-  fieldFaults,
-  recordFaults,
-}
+use Rattle.dna.specs.RecordFaults.{raw4Codes, paddingOf, rawBitStray, recordFlagInvalid, spanOutside, clipsInvalid, laterZero, entryOffsetInvalid, baseCodeInvalid, paddingNonzero, raw4BitWrong, nCountInvalid, nListInvalid, fieldFaults, recordFaults}
 use Rattle.dna.proofs.OffsetLaws.{Steps, tests-steps, steps-tests}
 use Rattle.dna.proofs.RecordFinds.{Faultless, faults-parts, parts-faults}
 

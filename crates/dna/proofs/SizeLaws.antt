@@ -1,14 +1,11 @@
 -- A size section is a list of bytes: what is stored fits its form. Assumes nothing.
-use mathlib.Core.Path.{_≡_, refl}
-use Prim.Native.Nat.{ℕ, zero, suc, _<_}
-use native.Mathlib.Omega.{arith}
-use mathlib.Core.Bool.{Bool, true, false, cond}
-use mathlib.Core.List.{List, [], _∷_, _++_, map, flatMap}
-use lib.ListN.{length, getD}
-use Rattle.base.specs.Lists.{Below, AllBytes, All}
+use Prim.Native.Nat.{ℕ, _<_}
+use mathlib.Core.Bool.{Bool, false}
+use mathlib.Core.List.{List, [], _∷_, map, flatMap}
+use lib.ListN.{getD}
+use Rattle.base.specs.Lists.{AllBytes, All}
 use Rattle.base.specs.Groups.{inGroups}
-use Rattle.base.specs.Packed.{byteOf}
-use Rattle.base.proofs.ListLaws.{by-test, below-at, below-nil, below-cons, below-append}
+use Rattle.base.proofs.ListLaws.{below-nil, below-cons, below-append}
 use Rattle.base.proofs.GroupLaws.{all-inGroups}
 use Rattle.base.proofs.BitLaws.{cond-small}
 use Rattle.base.proofs.NumberLaws.{leBytes-bytes}

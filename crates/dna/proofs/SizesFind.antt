@@ -1,19 +1,19 @@
 -- The answer of a size section is the list of lengths that it stores, and there is one where it stores any.
 -- Assumes nothing.
 use mathlib.Core.Path.{_≡_, refl, sym, ap, ap₂, _∙_, subst}
-use Prim.Native.Nat.{ℕ, zero, suc, _+_, _-_, _*_, _≤_, _<_, min}
+use Prim.Native.Nat.{ℕ, zero, suc, _+_, _≤_, _<_}
 use native.Mathlib.Nat.{not-suc-le-zero, le-of-suc-le-suc}
 use native.Mathlib.Omega.{arith}
-use mathlib.Core.Bool.{Bool, true, false, cond, _&&_, _||_}
-use mathlib.Core.List.{List, [], _∷_, _++_, map, flatMap, flatten, append-nil}
-use lib.ListN.{length, getD, length-append, length-map, length-take, length-drop, List·getD-map, List·getD-eq-default}
-use lib.Dec.{leb, ltb, eqb}
+use mathlib.Core.Bool.{Bool, true, false, cond, _||_}
+use mathlib.Core.List.{List, [], _∷_, _++_, map, flatMap, flatten}
+use lib.ListN.{length, getD, length-append, length-map, List·getD-eq-default}
+use lib.Dec.{ltb, eqb}
 use borrow.Author.Tests.{le-ltb, lt-leb, ltb-false, leb-false}
 use Rattle.base.specs.Lists.{any, total, AllBytes, All}
-use Rattle.base.specs.Groups.{groupCount, inGroups, groupSizes, byteBitStray}
+use Rattle.base.specs.Groups.{inGroups, groupSizes, byteBitStray}
 use Rattle.base.specs.Packed.{bit, byteOf}
 use Rattle.base.specs.Place.{At}
-use Rattle.base.specs.Scan.{Scan, found, refused, checked, andThen}
+use Rattle.base.specs.Scan.{found}
 use Rattle.base.proofs.ListLaws.{by-order, below-at, all-append}
 use Rattle.base.proofs.PlaceLaws.{at-self, at-same, at-left, at-right, at-both, at-head, at-tail, at-cons, at-nil, at-to}
 use Rattle.base.proofs.BitLaws.{stray-clear, clear-stray, bit-byteOf, byteOf-bit}
@@ -26,8 +26,7 @@ use Rattle.base.proofs.GroupLaws.{
   total-groupSizes,
 }
 use Rattle.base.proofs.Tests.{absurd-test, or-neither, neither-or}
-use Rattle.base.proofs.ScanLaws.{found-same, absurd-found, checked-none, checked-found, andThen-found, andThen-parts, cond-yes, cond-no, cond-parts}
-use Rattle.dna.specs.Varint16.{varint16Bytes}
+use Rattle.base.proofs.ScanLaws.{found-same, checked-none, checked-found, andThen-found, andThen-parts}
 use Rattle.dna.specs.Sizes.{
   maxReadLength,
   StoredSize,

@@ -1,5 +1,5 @@
 -- The walk answers every row of the table of sums, and every further row, by computation. Assumes nothing.
-use mathlib.Core.Path.{_≡_, refl}
+use mathlib.Core.Path.{refl}
 use Rattle.base.specs.Numbers.{le}
 use Rattle.base.specs.Groups.{groupSizes}
 use Rattle.base.specs.Packed.{symbolsAt}

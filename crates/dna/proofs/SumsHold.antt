@@ -1,54 +1,20 @@
 -- Every starred row of "Sums done by hand" (01) is right, by computation. Assumes nothing.
-use Prim.Native.Nat.{ℕ, _+_, _^_, _<_}
+use Prim.Native.Nat.{ℕ}
 use mathlib.Core.Path.{_≡_, refl}
-use mathlib.Core.Bool.{Bool, true, false, cond}
+use mathlib.Core.Bool.{false}
 use mathlib.Core.List.{List, [], _∷_, flatMap}
 use lib.ListN.{getD, drop}
 use native.Mathlib.Omega.{arith}
-use Rattle.base.specs.Lists.{All, Below, build, any, member, indexOf, countTrue, placesFrom}
+use Rattle.base.specs.Lists.{build, any, member, indexOf, countTrue, placesFrom}
 use Rattle.base.specs.Groups.{groupCount, inGroups, byteBitStray}
 use Rattle.base.specs.Numbers.{leBytes}
 use Rattle.base.specs.Packed.{digit, bit, byteOf, packedLength, symbolAt, pack}
-use Rattle.base.specs.Faults.{Fault, fault, NoneFits}
+use Rattle.base.specs.Faults.{NoneFits}
 use Rattle.base.proofs.Tests.{belowTest, test-below}
 use Rattle.dna.specs.Reference.{referenceBase, complement, referenceSizeWrong, stretchLetters, strandBase, stretchIndex, letterOfCode}
 use Rattle.dna.specs.Varint16.{varint16Words, varint16Bytes}
-use Rattle.dna.specs.Sizes.{
-  SizesStored,
-  same,
-  inByte,
-  inWords,
-  isSame,
-  isInByte,
-  storedBytes,
-  flagByte,
-  sizeGroupBytes,
-  sizeSectionBytes,
-  lengthsFrom,
-  lengthInvalid,
-  firstIsSame,
-}
-use Rattle.dna.specs.Record.{
-  ReadContext,
-  Entry,
-  PackedCodes,
-  RecordFields,
-  perfect,
-  global,
-  local,
-  raw,
-  raw4,
-  StoredRecord,
-  fieldWidth,
-  entryByte,
-  packedBytes,
-  flagByteOf,
-  fieldsBytes,
-  hasNList,
-  nListBytes,
-  recordBytes,
-  RecordFits,
-}
+use Rattle.dna.specs.Sizes.{same, inByte, inWords, isSame, isInByte, storedBytes, flagByte, sizeGroupBytes, sizeSectionBytes, lengthsFrom, lengthInvalid, firstIsSame}
+use Rattle.dna.specs.Record.{StoredRecord, fieldWidth, entryByte, packedBytes, flagByteOf, fieldsBytes, hasNList, nListBytes, recordBytes, RecordFits}
 use Rattle.dna.specs.Alignment.{
   isAligned,
   fieldOf,
@@ -90,30 +56,8 @@ use Rattle.dna.specs.Letters.{
   codeOf,
   recordLetters,
 }
-use Rattle.dna.specs.Counts.{
-  Counted,
-  plus,
-  sumCounts,
-  isFiller,
-  isUnderN,
-  isDifference,
-  recordCounts,
-}
-use Rattle.dna.specs.Division.{
-  GroupFlags,
-  Division,
-  groupBytes,
-  divisionBytes,
-  contextOf,
-  groupSlots,
-  slots,
-  readsFrom,
-  readsOf,
-  groupBitStray,
-  Divides,
-  divisionLetters,
-  divisionCounts,
-}
+use Rattle.dna.specs.Counts.{plus, sumCounts, isFiller, isUnderN, isDifference, recordCounts}
+use Rattle.dna.specs.Division.{groupBytes, divisionBytes, contextOf, groupSlots, slots, readsFrom, readsOf, groupBitStray, Divides, divisionLetters, divisionCounts}
 use Rattle.dna.specs.Sums.{reference, packed, entry, rows, fitting, flagsOf, oneRead, TableRight}
 
 -- All that the table computes with: to unfold this is to unfold each.

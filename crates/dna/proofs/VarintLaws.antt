@@ -1,18 +1,16 @@
 -- A number in words of 16 bits is found where it stands, and what is found stands there. Assumes nothing.
-use mathlib.Core.Path.{_≡_, refl, sym, ap, ap₂, _∙_, subst}
-use Prim.Native.Nat.{ℕ, zero, suc, _+_, _-_, _*_, _/_, _%_, _≤_, _<_}
+use mathlib.Core.Path.{_≡_, refl, sym, ap, ap₂, _∙_}
+use Prim.Native.Nat.{ℕ, zero, suc, _+_, _*_, _/_, _%_, _≤_, _<_}
 use native.Mathlib.Omega.{arith}
-use mathlib.Core.Bool.{Bool, true, false, cond}
 use mathlib.Core.List.{List, [], _∷_, _++_, flatMap, append-nil}
-use lib.ListN.{length, getD, replicate, length-append}
-use lib.Dec.{leb, ltb, eqb}
-use borrow.Author.Tests.{ltb-true, leb-true, eqb-true, eqb-false, ltb-false, leb-false, lt-ltb, le-leb, le-ltb, lt-leb, eq-eqb, ne-eqb}
+use lib.ListN.{length, replicate, length-append}
+use lib.Dec.{eqb}
+use borrow.Author.Tests.{eqb-true, eqb-false, ltb-false, leb-false, le-ltb, lt-leb, eq-eqb, ne-eqb}
 use Rattle.base.specs.Lists.{any, AllBytes}
 use Rattle.base.specs.Numbers.{le, leBytes}
-use Rattle.base.specs.Faults.{NoneFits}
 use Rattle.base.specs.Place.{At}
-use Rattle.base.specs.Scan.{Scan, found, refused, checked, andThen}
-use Rattle.base.proofs.PlaceLaws.{at-left, at-right, at-both, at-to, at-nil}
+use Rattle.base.specs.Scan.{found}
+use Rattle.base.proofs.PlaceLaws.{at-left, at-right, at-both}
 use Rattle.base.proofs.NumberLaws.{length-leBytes, le-leBytes, leBytes-le}
 use Rattle.base.proofs.Tests.{or-neither, neither-or}
 use Rattle.base.proofs.ScanLaws.{found-same, absurd-found, checked-none, checked-found, andThen-found, andThen-parts, cond-parts}

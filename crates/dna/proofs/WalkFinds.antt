@@ -1,12 +1,11 @@
 -- A division that meets the rules is found by the walk. Assumes nothing.
 use mathlib.Core.Path.{_≡_, refl, sym, ap, ap₂, _∙_, subst}
-use Prim.Native.Nat.{ℕ, zero, suc, _+_, _≤_, _<_}
+use Prim.Native.Nat.{ℕ, suc, _+_, _≤_}
 use native.Mathlib.Omega.{arith}
-use mathlib.Core.Bool.{Bool, true, false, not}
 use mathlib.Core.List.{List, [], _∷_, _++_, flatMap}
-use lib.ListN.{length, getD, take, drop, length-append}
+use lib.ListN.{length, take, length-append}
 use lib.Seq.{take-length, length-take-le}
-use lib.Dec.{ltb, eqb}
+use lib.Dec.{eqb}
 use borrow.Author.Tests.{le-ltb, eq-eqb}
 use Rattle.base.specs.Lists.{any, All}
 use Rattle.base.specs.Groups.{inGroups}
@@ -14,7 +13,7 @@ use Rattle.base.specs.Place.{At}
 use Rattle.base.proofs.ListLaws.{all-left, all-right}
 use Rattle.base.proofs.PlaceLaws.{at-take, at-left, at-right, at-head, at-tail, at-to}
 use Rattle.base.proofs.Tests.{neither-or, true-not}
-use Rattle.dna.specs.Record.{ReadContext, StoredRecord, recordBytes}
+use Rattle.dna.specs.Record.{ReadContext, recordBytes}
 use Rattle.dna.specs.Alignment.{positionAfter}
 use Rattle.dna.specs.Division.{
   GroupFlags,
@@ -36,7 +35,7 @@ use Rattle.dna.specs.Division.{
   GroupsMeet,
   Divides,
 }
-use Rattle.dna.specs.Walk.{Walk, walked, lastPosition, readsAt, flagsAt, groupAt, groupsAt, sectionWalk}
+use Rattle.dna.specs.Walk.{walked, lastPosition, readsAt, flagsAt, groupAt, groupsAt, sectionWalk}
 use Rattle.dna.proofs.RecordFinds.{record-find}
 use Rattle.dna.proofs.WalkLaws.{inRead-found, onward-walked, checkedRead-none, readsFrom-append}
 

@@ -1,10 +1,10 @@
 -- What the walk finds is a division that meets the rules. Assumes nothing.
-use mathlib.Core.Path.{_≡_, refl, sym, ap, ap₂, _∙_, subst}
-use Prim.Native.Nat.{ℕ, zero, suc, _+_, _≤_, _<_}
+use mathlib.Core.Path.{_≡_, refl, sym, ap, _∙_, subst}
+use Prim.Native.Nat.{ℕ, suc, _+_, _≤_}
 use native.Mathlib.Omega.{arith}
-use mathlib.Core.Bool.{Bool, true, false, not, _||_}
-use mathlib.Core.List.{List, [], _∷_, _++_, flatMap}
-use lib.ListN.{length, getD, take, drop, length-append}
+use mathlib.Core.Bool.{false, not, _||_}
+use mathlib.Core.List.{List, [], _∷_, flatMap}
+use lib.ListN.{length, take, length-append}
 use lib.Seq.{take-all, length-take-le}
 use lib.Dec.{ltb, eqb}
 use borrow.Author.Tests.{ltb-false, eqb-true}
@@ -15,7 +15,7 @@ use Rattle.base.proofs.ListLaws.{all-append}
 use Rattle.base.proofs.GroupLaws.{length-inGroups}
 use Rattle.base.proofs.PlaceLaws.{at-take, at-same, at-both, at-cons, at-nil, at-to}
 use Rattle.base.proofs.Tests.{or-neither, not-false}
-use Rattle.dna.specs.Record.{ReadContext, StoredRecord, recordBytes}
+use Rattle.dna.specs.Record.{ReadContext, recordBytes}
 use Rattle.dna.specs.Alignment.{positionAfter}
 use Rattle.dna.specs.Division.{
   GroupFlags,
@@ -38,7 +38,7 @@ use Rattle.dna.specs.Division.{
   Divides,
 }
 use Rattle.dna.specs.RecordAt.{recordAt}
-use Rattle.dna.specs.Walk.{Walk, walked, lastPosition, readsAt, flagsAt, groupAt, groupsAt, sectionWalk}
+use Rattle.dna.specs.Walk.{walked, lastPosition, readsAt, flagsAt, groupAt, groupsAt, sectionWalk}
 use Rattle.dna.proofs.RecordFound.{RecordFoundAt, record-found}
 use Rattle.dna.proofs.WalkLaws.{walked-same, inRead-parts, onward-parts, checkedRead-walked, readsFrom-append}
 

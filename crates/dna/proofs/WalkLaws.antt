@@ -1,11 +1,11 @@
 -- Running a walk, and taking one apart that went through. Assumes nothing.
-use mathlib.Core.Path.{_≡_, refl, sym, ap, _∙_}
+use mathlib.Core.Path.{_≡_, refl, ap}
 use Prim.Native.Nat.{ℕ}
 use native.Mathlib.Omega.{arith}
 use mathlib.Core.Bool.{Bool, true, false, cond, _||_}
 use mathlib.Core.List.{List, [], _∷_, _++_}
 use Rattle.base.specs.Lists.{any}
-use Rattle.base.specs.Faults.{Fault, fault, NoneFits}
+use Rattle.base.specs.Faults.{Fault, NoneFits}
 use Rattle.base.specs.Scan.{Scan, found, refused}
 use Rattle.base.proofs.Tests.{or-neither}
 use Rattle.dna.specs.Record.{ReadContext}

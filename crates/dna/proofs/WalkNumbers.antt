@@ -1,23 +1,21 @@
 -- The walk refuses with its own numbers, 11 to 20, and names a read of the block. Assumes nothing.
-use mathlib.Core.Path.{_≡_, refl, ap, _∙_, subst}
+use mathlib.Core.Path.{_≡_, ap, _∙_, subst}
 use Prim.Native.Nat.{ℕ, zero, suc, _+_, _≤_, _<_}
 use native.Mathlib.Omega.{arith}
 use mathlib.Core.Bool.{Bool, true, false, cond}
-use mathlib.Core.List.{List, [], _∷_, _++_, map}
+use mathlib.Core.List.{List, [], _∷_, map}
 use lib.ListN.{length, getD, drop}
-use lib.Dec.{leb, ltb, eqb}
+use lib.Dec.{eqb}
 use Rattle.base.specs.Lists.{All, total}
 use Rattle.base.specs.Groups.{inGroups}
-use Rattle.base.specs.Packed.{bit}
-use Rattle.base.specs.Faults.{Fault, fault}
+use Rattle.base.specs.Faults.{Fault}
 use Rattle.base.specs.Numbers.{le}
 use Rattle.base.specs.Scan.{Scan, found, refused, checked, andThen}
-use Rattle.base.proofs.ListLaws.{by-test}
 use Rattle.base.proofs.GroupLaws.{inGroups-some, sizes-inGroups, total-groupSizes}
-use Rattle.dna.specs.Record.{ReadContext, RecordFields, StoredRecord, fieldsBytes, hasNList}
+use Rattle.dna.specs.Record.{ReadContext, RecordFields, hasNList}
 use Rattle.dna.specs.Alignment.{positionAfter}
 use Rattle.dna.specs.RecordFaults.{fieldFaults}
-use Rattle.dna.specs.Division.{GroupFlags, Piece, Group, Division, contextOf, groupSlots}
+use Rattle.dna.specs.Division.{GroupFlags, Division, contextOf, groupSlots}
 use Rattle.dna.specs.RecordAt.{
   perfectAt,
   flaggedAt,

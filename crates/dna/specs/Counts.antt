@@ -6,7 +6,7 @@ use lib.ListN.{length, getD}
 use lib.Dec.{eqb}
 use Rattle.base.specs.Lists.{build, member, countTrue}
 use Rattle.dna.specs.Reference.{strandBase}
-use Rattle.dna.specs.Record.{ReadContext, Entry, RecordFields, StoredRecord}
+use Rattle.dna.specs.Record.{ReadContext, RecordFields, StoredRecord}
 use Rattle.dna.specs.Alignment.{entriesOf, leftOf, referenceIndex, entryPlaces, nPositions}
 
 -- 01: the counts of a block, or of a read.

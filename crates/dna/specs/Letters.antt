@@ -1,23 +1,13 @@
 -- The letters of a record, one at a time (01, Records): where each comes from, the first that fits, and
 -- what it is.
-use Prim.Native.Nat.{ℕ, suc, _+_, _-_}
-use mathlib.Core.Bool.{Bool, true, false, cond}
+use Prim.Native.Nat.{ℕ, _+_, _-_}
+use mathlib.Core.Bool.{Bool, cond}
 use mathlib.Core.List.{List, [], map}
-use lib.ListN.{length, getD}
-use lib.Dec.{ltb, leb}
+use lib.ListN.{getD}
+use lib.Dec.{ltb}
 use Rattle.base.specs.Lists.{build, member, indexOf}
 use Rattle.dna.specs.Reference.{strandBase, letterOfCode}
-use Rattle.dna.specs.Record.{
-  ReadContext,
-  Entry,
-  RecordFields,
-  perfect,
-  global,
-  local,
-  raw,
-  raw4,
-  StoredRecord,
-}
+use Rattle.dna.specs.Record.{ReadContext, RecordFields, perfect, global, local, raw, raw4, StoredRecord}
 use Rattle.dna.specs.Alignment.{
   isAligned,
   entriesOf,

@@ -1,6 +1,6 @@
 -- Records (01, Records): what is known of a read before its record, the five kinds and their fields, the
 -- bytes of a record, and the ranges without which two records could have the same bytes.
-use Prim.Native.Nat.{ℕ, _+_, _*_, _^_, _≤_, _<_}
+use Prim.Native.Nat.{ℕ, _+_, _*_, _^_, _<_}
 use mathlib.Core.Path.{_≡_}
 use mathlib.Core.Bool.{Bool, true, false, cond}
 use mathlib.Core.List.{List, [], _∷_, _++_, map, flatMap}

@@ -1,6 +1,5 @@
 -- The faults 13 to 20 of a record (01, Records and Numbers of refusal), each from its sentence.
 use Prim.Native.Nat.{ℕ, _+_, _/_}
-use mathlib.Core.Path.{_≡_}
 use mathlib.Core.Bool.{Bool, false, not, _&&_, _||_, Bool·beq}
 use mathlib.Core.List.{List, [], _∷_, _++_, map}
 use lib.ListN.{length}
@@ -8,20 +7,7 @@ use lib.Dec.{leb, ltb, eqb}
 use Rattle.base.specs.Lists.{any, member}
 use Rattle.base.specs.Packed.{bit}
 use Rattle.base.specs.Faults.{Fault, fault}
-use Rattle.dna.specs.Record.{
-  ReadContext,
-  Entry,
-  PackedCodes,
-  RecordFields,
-  perfect,
-  global,
-  local,
-  raw,
-  raw4,
-  StoredRecord,
-  flagByteOf,
-  hasNList,
-}
+use Rattle.dna.specs.Record.{ReadContext, RecordFields, perfect, global, local, raw, raw4, StoredRecord, flagByteOf, hasNList}
 use Rattle.dna.specs.Alignment.{
   isAligned,
   entriesOf,

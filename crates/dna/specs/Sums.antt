@@ -23,7 +23,6 @@ use Rattle.dna.specs.Record.{
   RecordFits,
 }
 use Rattle.dna.specs.RecordFaults.{recordFaults}
-use Rattle.dna.specs.Counts.{Counted}
 use Rattle.dna.specs.Division.{
   GroupFlags,
   Division,

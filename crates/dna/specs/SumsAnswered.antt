@@ -8,7 +8,6 @@ use lib.Dec.{eqb}
 use Rattle.base.specs.Lists.{All}
 use Rattle.dna.specs.Division.{Division, divisionLetters, divisionCounts}
 use Rattle.base.specs.Scan.{found}
-use Rattle.base.specs.Faults.{Fault}
 use Rattle.dna.specs.Record.{ReadContext, RecordFields}
 use Rattle.dna.specs.RecordFaults.{fieldFaults}
 use Rattle.dna.specs.SizesAt.{sizesAnswer}

@@ -1,27 +1,22 @@
 -- What the calls refuse with: the number is one of their own, and the read index is 0 or a read's. Assumes nothing.
-use mathlib.Core.Path.{_≡_, refl, sym, ap, _∙_, subst}
-use Prim.Native.Nat.{ℕ, zero, suc, _+_, _≤_, _<_}
+use mathlib.Core.Path.{_≡_, refl, sym, ap, _∙_}
+use Prim.Native.Nat.{ℕ, _≤_, _<_}
 use native.Mathlib.Omega.{arith}
-use mathlib.Core.Bool.{Bool, true, false, cond, _&&_}
+use mathlib.Core.Bool.{Bool, true, false, cond}
 use mathlib.Core.List.{List, [], _∷_}
-use lib.ListN.{length, replicate, length-replicate}
-use lib.Dec.{leb, ltb, eqb}
-use borrow.Author.Tests.{le-leb, leb-true}
+use lib.ListN.{length, length-replicate}
 use Rattle.base.specs.Lists.{All}
-use Rattle.base.specs.Faults.{Fault, fault}
+use Rattle.base.specs.Faults.{Fault}
 use Rattle.base.specs.Scan.{Scan, found, refused}
 use Rattle.base.proofs.ScanLaws.{found-same, checked-found, cond-parts}
 use Rattle.dna.proofs.SizesFind.{sizes-count}
-use Rattle.base.proofs.Tests.{and-both, both-and}
 use Rattle.dna.specs.Division.{Division}
-use Rattle.dna.specs.SizesAt.{sizesAnswer}
 use Rattle.dna.specs.Walk.{Walk, walked, stopped, sectionWalk}
 use Rattle.dna.proofs.WalkNumbers.{Own, walk-own}
 use Rattle.format.specs.Header.{headerOf, flagSet, sameLengthFlag, readCount}
 use Rattle.format.specs.Sections.{dnaNumber, sizeNumber, nNumber, sectionOf}
 use Rattle.format.specs.HeaderFaults.{headerFaults}
 use Rattle.format.specs.Lengths.{lengthFaults}
-use Rattle.format.specs.WellFormed.{BlockDivision}
 use Rattle.format.specs.BlockAnswer.{
   BlockAnswer,
   accepts,

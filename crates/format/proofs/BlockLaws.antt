@@ -1,42 +1,34 @@
 -- The judgement of a block accepts exactly the inputs that begin with a well-formed block. Assumes nothing.
 use mathlib.Core.Path.{_≡_, refl, sym, ap, ap₂, _∙_, subst}
-use Prim.Native.Nat.{ℕ, zero, suc, _+_, _-_, _≤_, _<_}
+use Prim.Native.Nat.{ℕ, zero, suc, _+_, _≤_}
 use native.Mathlib.Omega.{arith}
 use mathlib.Core.Bool.{Bool, true, false, cond, not, _&&_, _||_}
 use mathlib.Core.List.{List, [], _∷_, _++_}
-use lib.ListN.{length, getD, take, drop, replicate, length-append, length-replicate, length-take, length-drop, take-append-drop}
-use lib.Seq.{length-take-le, getD-take, getD-drop}
+use lib.ListN.{length, take, drop, replicate, length-append, length-replicate, take-append-drop}
+use lib.Seq.{length-take-le}
 use lib.IntN.{ℤ, pos, negsuc}
 use lib.Dec.{ltb, eqb}
 use borrow.Author.Tests.{ltb-true, ltb-false, lt-ltb, le-ltb, eqb-true}
-use Rattle.base.specs.Lists.{part, any, Below, AllBytes}
+use Rattle.base.specs.Lists.{any, AllBytes}
 use Rattle.base.specs.Groups.{groupCount}
 use Rattle.base.specs.Numbers.{nonNegative}
 use Rattle.base.specs.Faults.{Fault, fault, NoneFits}
-use Rattle.base.specs.Scan.{Scan, found, refused, checked}
+use Rattle.base.specs.Scan.{Scan, found, refused}
 use Rattle.base.proofs.Tests.{absurd-test, or-neither, neither-or, and-first, not-false}
 use Rattle.base.proofs.ListLaws.{by-test, below-take, below-drop}
-use Rattle.base.proofs.ScanLaws.{found-same, absurd-found, checked-none, checked-found, cond-yes, cond-no, cond-parts}
+use Rattle.base.proofs.ScanLaws.{found-same, checked-none, checked-found, cond-yes, cond-no}
 use Rattle.dna.specs.Reference.{referenceSizeWrong, ReferenceFits}
-use Rattle.dna.specs.Sizes.{lengthInvalid, SizesStored}
+use Rattle.dna.specs.Sizes.{lengthInvalid}
 use Rattle.dna.specs.SizesAt.{sizesAnswer}
 use Rattle.dna.specs.Division.{Division, Divides}
 use Rattle.dna.specs.Walk.{Walk, walked, stopped, sectionWalk}
-use Rattle.dna.proofs.SizesFind.{sizes-answer, SizesAnswered, answer-sizes}
+use Rattle.dna.proofs.SizesFind.{sizes-answer, answer-sizes}
 use Rattle.dna.proofs.WalkFinds.{divides-walk}
 use Rattle.dna.proofs.WalkFound.{walk-divides}
 use Rattle.format.specs.Header.{Header, headerOf, flagSet, sameLengthFlag, readCount}
 use Rattle.format.specs.Sections.{dnaNumber, sizeNumber, nNumber, sectionStart, sectionLength, sectionOf, blockLength}
 use Rattle.format.specs.HeaderFaults.{headerFaults}
-use Rattle.format.specs.Lengths.{
-  HeaderLengths,
-  SectionLengths,
-  LengthsBy,
-  LengthsAre,
-  dnaSizeWrong,
-  nSectionWrong,
-  lengthFaults,
-}
+use Rattle.format.specs.Lengths.{HeaderLengths, LengthsBy, LengthsAre, dnaSizeWrong, nSectionWrong, lengthFaults}
 use Rattle.format.specs.WellFormed.{BlockDivision, DividesBlock, WellFormed}
 use Rattle.format.specs.BlockAnswer.{
   BlockAnswer,

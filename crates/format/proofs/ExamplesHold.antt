@@ -1,13 +1,12 @@
 -- The worked examples hold, by computation. Assumes nothing.
-use Prim.Native.Nat.{ℕ}
-use mathlib.Core.Path.{_≡_, refl}
-use mathlib.Core.List.{List, [], _∷_, flatten}
+use mathlib.Core.Path.{refl}
+use mathlib.Core.List.{[], _∷_, flatten}
 use native.Mathlib.Omega.{arith}
 use Rattle.base.specs.Lists.{total, keep, placesWhere, stepsFrom}
 use Rattle.base.specs.Numbers.{signed, nonNegative}
 use Rattle.base.specs.Paste.{pasted}
 use Rattle.base.proofs.Tests.{belowTest, test-below}
-use Rattle.dna.specs.Record.{Entry, RecordFields, global, StoredRecord}
+use Rattle.dna.specs.Record.{global}
 use Rattle.dna.specs.Division.{readEnds}
 use Rattle.dna.specs.Sums.{reference, entry, oneRead}
 use Rattle.dna.proofs.SumsHold.{computed}

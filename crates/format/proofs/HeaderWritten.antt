@@ -1,13 +1,12 @@
 -- A header that is written is read back, field by field (01: the table of offsets, both ways). Assumes nothing.
-use mathlib.Core.Path.{_≡_, refl, sym, ap, _∙_}
-use Prim.Native.Nat.{ℕ, suc, _+_, _-_, _^_, _≤_, _<_}
+use mathlib.Core.Path.{_≡_, refl, ap, _∙_}
+use Prim.Native.Nat.{ℕ, suc, _+_, _-_, _^_, _<_}
 use native.Mathlib.Omega.{arith}
-use mathlib.Core.List.{List, [], _∷_, _++_, flatten}
+use mathlib.Core.List.{List, _∷_, _++_, flatten}
 use lib.ListN.{length}
 use lib.IntN.{ℤ, pos, negsuc}
-use lib.Dec.{ltb}
 use borrow.Author.Tests.{lt-ltb, le-ltb}
-use Rattle.base.specs.Numbers.{le, leBytes, signed, int32}
+use Rattle.base.specs.Numbers.{le, signed, int32}
 use Rattle.base.specs.Place.{At}
 use Rattle.base.proofs.NumberLaws.{length-leBytes, le-leBytes}
 use Rattle.base.proofs.PlaceLaws.{at-self, at-left, at-right, at-to}

@@ -1,14 +1,7 @@
 -- Demand 3: judging files. Assumes nothing.
 pub mod Blocks
 pub mod Prefixes
-use mathlib.Core.Path.{_≡_, refl, sym, ap, ap₂, _∙_, subst}
-use Prim.Native.Nat.{ℕ, _≤_}
-use native.Mathlib.Omega.{arith}
-use mathlib.Core.Logic.{_↔_}
-use mathlib.Core.List.{List, [], _∷_, _++_}
-use lib.ListN.{length}
-use Rattle.base.specs.Lists.{AllBytes}
-use Rattle.dna.specs.Reference.{ReferenceFits}
+use mathlib.Core.Path.{sym, ap, _∙_}
 use Rattle.format.specs.Demands.{Demand3}
 use Blocks.{file-answer, FileFound, file-found, one-list, own-divisions}
 use Prefixes.{one-divided, prefix}

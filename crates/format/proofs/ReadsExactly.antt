@@ -1,17 +1,12 @@
 -- Demand 2, reading: a well-formed block gives exactly the letters, lengths and counts defined, and no other block
 -- is accepted. Assumes nothing.
 pub mod Answers
-use mathlib.Core.Path.{_≡_, refl, sym, ap, _∙_, subst}
+use mathlib.Core.Path.{_≡_, sym, ap, subst}
 use Prim.Native.Nat.{ℕ}
-use mathlib.Core.Logic.{_↔_}
-use mathlib.Core.List.{List, _++_}
-use lib.ListN.{length}
-use Rattle.base.specs.Lists.{AllBytes}
-use Rattle.dna.specs.Reference.{ReferenceFits}
-use Rattle.format.specs.WellFormed.{BlockDivision, WellFormed}
+use mathlib.Core.List.{List}
 use Rattle.format.specs.BlockAnswer.{validatedBlock, decoded}
-use Rattle.format.specs.Demands.{Readable, Decodes, Demand2Reading}
-use Rattle.format.proofs.BlockLaws.{FirstBlock, first-block, block-found}
+use Rattle.format.specs.Demands.{Demand2Reading}
+use Rattle.format.proofs.BlockLaws.{first-block, block-found}
 use Answers.{decodes, block-counts, Decoded, decoded-zero, validated-zero}
 
 -- Whatever follows a block, decoding and judging accept it exactly if it is well-formed (and there is room); then

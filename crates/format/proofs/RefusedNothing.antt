@@ -1,9 +1,6 @@
 -- Demand 1 over the answers: a refused call changes nothing and counts nothing. Assumes nothing.
 mod Calls
 mod Given
-use mathlib.Core.Path.{_≡_, refl}
-use Prim.Native.Nat.{ℕ}
-use mathlib.Core.List.{List}
 use Rattle.format.specs.Demands.{Demand1}
 use Calls.{decode-refuses, block-refuses, file-refuses, encode-refuses}
 use Given.{given-exactly}

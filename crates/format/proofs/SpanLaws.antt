@@ -1,9 +1,9 @@
 -- A section's span is where the section stands (01: a body is handed back as the very part of the block). Assumes
 -- nothing.
-use mathlib.Core.Path.{_≡_, refl, sym, ap, _∙_}
+use mathlib.Core.Path.{_≡_, refl, sym}
 use Prim.Native.Nat.{ℕ, _+_, _≤_}
 use native.Mathlib.Omega.{arith}
-use mathlib.Core.Bool.{Bool, true, false, cond, _||_}
+use mathlib.Core.Bool.{Bool}
 use mathlib.Core.List.{List, []}
 use lib.ListN.{length, take, drop}
 use lib.Dec.{eqb}
@@ -11,7 +11,6 @@ use borrow.Author.Tests.{eqb-true}
 use Rattle.base.specs.Lists.{part}
 use Rattle.base.proofs.ListLaws.{by-test}
 use Rattle.base.proofs.ScanLaws.{cond-yes, cond-no}
-use Rattle.base.proofs.Tests.{neither-or, or-right}
 use Rattle.format.specs.Header.{headerOf}
 use Rattle.format.specs.Sections.{sectionStart, sectionLength, sectionOf}
 use Rattle.format.specs.BlockAnswer.{headerRefused, sectionAnswer, Span, spanAnswer}

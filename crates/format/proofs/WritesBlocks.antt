@@ -16,8 +16,8 @@ use Rattle.base.proofs.GroupLaws.{length-flatten}
 use Rattle.base.proofs.ScanLaws.{cond-yes}
 use Rattle.dna.specs.Reference.{ReferenceFits, letterOfCode}
 use Rattle.dna.specs.Letters.{recordLetters}
-use Rattle.dna.specs.Counts.{Counted, zeroCounts, sumCounts, recordCounts}
-use Rattle.dna.specs.Division.{Read, Division, divisionBytes, readsOf, divisionLetters, divisionCounts, readEnds}
+use Rattle.dna.specs.Counts.{sumCounts, recordCounts}
+use Rattle.dna.specs.Division.{Read, Division, divisionBytes, divisionLetters, divisionCounts, readEnds}
 use Rattle.format.specs.Header.{headerOf}
 use Rattle.format.specs.WellFormed.{BlockDivision, DividesBlock, WellFormed}
 use Rattle.format.specs.Joined.{blockReads, blockCounts}
@@ -33,15 +33,7 @@ use Rattle.format.specs.FixedRule.{
   writtenHeader,
   ruleBlock,
 }
-use Rattle.format.specs.EncodeAnswer.{
-  EncodeInput,
-  readsOfInput,
-  candidatesOf,
-  blockOf,
-  encodeNumber,
-  encoded,
-  encodedBuffer,
-}
+use Rattle.format.specs.EncodeAnswer.{EncodeInput, candidatesOf, blockOf, encodeNumber, encoded, encodedBuffer}
 use Rattle.format.specs.Demands.{
   Room,
   Decodes,
@@ -54,7 +46,7 @@ use Rattle.format.specs.Demands.{
 }
 use Rattle.format.proofs.WrittenDivision.{AllMeet, asRead, pieceOf, written-reads}
 use Rattle.format.proofs.WrittenBlock.{WrittenReads, all-meet}
-use Rattle.format.proofs.WrittenWellFormed.{RuleFits, ruleDivided, rule-header, rule-wellFormed}
+use Rattle.format.proofs.WrittenWellFormed.{ruleDivided, rule-header, rule-wellFormed}
 use Rattle.format.proofs.ReadsExactly.Answers.{decodes}
 use Rattle.format.proofs.JudgesFiles.Prefixes.{one-divided}
 use Inputs.{reads-back, codes-lengths, reads-of-input, rule-fits}

@@ -1,30 +1,20 @@
 -- The block that the fixed rule writes is well-formed, and divided as the rule says. Assumes nothing.
-use mathlib.Core.Path.{_≡_, refl, sym, ap, ap₂, _∙_, subst}
-use Prim.Native.Nat.{ℕ, zero, suc, _+_, _-_, _*_, _/_, _^_, _≤_, _<_}
+use mathlib.Core.Path.{_≡_, refl, ap, ap₂, _∙_}
+use Prim.Native.Nat.{ℕ, suc, _+_, _*_, _^_, _≤_, _<_}
 use native.Mathlib.Omega.{arith}
-use mathlib.Core.Bool.{Bool, true, false, cond, not, _||_}
+use mathlib.Core.Bool.{false}
 use mathlib.Core.List.{List, [], _∷_, _++_, map, flatten, flatMap}
-use lib.ListN.{length, getD, take, drop, length-append, length-map, length-take, length-drop}
-use lib.Seq.{take-at, drop-at}
-use lib.Dec.{ltb, eqb}
-use lib.IntN.{ℤ, pos}
-use borrow.Author.Tests.{le-ltb, eq-eqb, ltb-false}
-use Rattle.base.specs.Lists.{part, any, total, All, Below, AllBytes}
+use lib.ListN.{length, getD, length-append, length-map}
+use Rattle.base.specs.Lists.{any, total, All, Below, AllBytes}
 use Rattle.base.specs.Groups.{groupCount, inGroups}
-use Rattle.base.specs.Numbers.{leBytes, nonNegative}
-use Rattle.base.specs.Packed.{byteOf}
-use Rattle.base.specs.Faults.{NoneFits}
-use Rattle.base.proofs.ListLaws.{by-test, below-nil, below-cons, below-append}
-use Rattle.base.proofs.NumberLaws.{length-leBytes, leBytes-bytes}
+use Rattle.base.proofs.ListLaws.{below-nil, below-cons, below-append}
 use Rattle.base.proofs.PackedLaws.{byteOf-below}
 use Rattle.base.proofs.BitLaws.{cond-small}
-use Rattle.base.proofs.GroupLaws.{length-inGroups, flatten-inGroups, all-inGroups, length-flatten}
-use Rattle.base.proofs.Tests.{neither-or, or-neither, true-not}
-use Rattle.dna.specs.Sizes.{lengthInvalid, sizeSectionBytes, SizesStored, StoredSize}
-use Rattle.dna.specs.Record.{recordBytes, RecordFits}
-use Rattle.dna.specs.Division.{Piece, Group, Division, groupBytes, divisionBytes, Divides}
+use Rattle.base.proofs.GroupLaws.{length-inGroups, flatten-inGroups, all-inGroups}
+use Rattle.dna.specs.Sizes.{lengthInvalid}
+use Rattle.dna.specs.Record.{recordBytes}
+use Rattle.dna.specs.Division.{groupBytes, divisionBytes}
 use Rattle.dna.proofs.RecordBytes.{recordBytes-bytes}
-use Rattle.dna.proofs.SizeLaws.{sizeSection-bytes}
 use Rattle.dna.proofs.RulesMean.{rules-mean}
 use Rattle.format.specs.FixedRule.{
   Candidate,
@@ -35,7 +25,7 @@ use Rattle.format.specs.FixedRule.{
   writtenDivision,
   writtenNSection,
 }
-use Rattle.format.proofs.WrittenRecord.{Meets, CandidateFits, written-meets}
+use Rattle.format.proofs.WrittenRecord.{CandidateFits, written-meets}
 use Rattle.format.proofs.WrittenDivision.{AllMeet, pieceOf}
 use Rattle.format.proofs.WrittenBound.{record-length}
 

@@ -1,39 +1,18 @@
 -- How long what is written can get: a DNA section of reads with fewer than 2 ^ 32 letters in all has fewer than
 -- 2 ^ 32 bytes. Assumes nothing.
-use mathlib.Core.Path.{_≡_, refl, sym, ap, ap₂, _∙_, subst}
-use Prim.Native.Nat.{ℕ, zero, suc, _+_, _-_, _*_, _/_, _%_, _≤_, _<_}
+use mathlib.Core.Path.{_≡_, refl, _∙_}
+use Prim.Native.Nat.{ℕ, _+_, _*_, _/_, _%_, _≤_}
 use native.Mathlib.Omega.{arith}
 use mathlib.Core.Bool.{Bool, true, false, cond}
 use mathlib.Core.List.{List, [], _∷_, _++_, map, flatMap}
-use lib.ListN.{length, length-append, length-map, length-replicate, replicate}
-use Rattle.base.specs.Lists.{total, All}
+use lib.ListN.{length, length-append, length-replicate, replicate}
+use Rattle.base.specs.Lists.{total}
 use Rattle.base.specs.Numbers.{leBytes}
-use Rattle.base.specs.Packed.{packedLength}
 use Rattle.base.proofs.ListLaws.{by-test}
 use Rattle.base.proofs.NumberLaws.{length-leBytes}
 use Rattle.base.proofs.PackedLaws.{packedLength-least}
-use Rattle.base.proofs.Tests.{absurd-test}
 use Rattle.dna.specs.Varint16.{varint16Words, varint16Bytes}
-use Rattle.dna.specs.Record.{
-  ReadContext,
-  Entry,
-  RecordFields,
-  perfect,
-  global,
-  local,
-  raw,
-  raw4,
-  StoredRecord,
-  fieldWidth,
-  entryByte,
-  packedBytes,
-  fieldsBytes,
-  hasNList,
-  nListBytes,
-  recordBytes,
-  FieldsFit,
-  RecordFits,
-}
+use Rattle.dna.specs.Record.{ReadContext, RecordFields, perfect, global, local, raw, raw4, StoredRecord, fieldWidth, entryByte, packedBytes, fieldsBytes, hasNList, nListBytes, recordBytes, FieldsFit, RecordFits}
 use Rattle.dna.proofs.OffsetLaws.{Steps}
 use Rattle.dna.proofs.FieldLaws.{length-entries, length-packed}
 use Rattle.dna.proofs.RulesMean.{NListHolds, RulesHold}

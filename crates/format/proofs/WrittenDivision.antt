@@ -1,39 +1,20 @@
 -- The division that the fixed rule writes meets the rules, and its reads are the rule's records. Assumes nothing.
 use mathlib.Core.Path.{_≡_, refl, sym, ap, ap₂, _∙_, subst}
-use Prim.Native.Nat.{ℕ, zero, suc, _+_, _-_, _*_, _≤_, _<_}
+use Prim.Native.Nat.{ℕ, suc, _+_, _≤_, _<_}
 use native.Mathlib.Nat.{zero-add}
 use native.Mathlib.Omega.{arith}
-use mathlib.Core.Bool.{Bool, true, false, cond, _||_}
-use mathlib.Core.List.{List, [], _∷_, _++_, map, flatten, flatMap, append-assoc}
-use lib.ListN.{length, getD, length-map, length-append, List·getD-map, List·getD-eq-default}
+use mathlib.Core.Bool.{Bool, false, cond}
+use mathlib.Core.List.{List, [], _∷_, _++_, map, flatten}
+use lib.ListN.{length, getD, length-map, List·getD-eq-default}
 use Rattle.base.specs.Lists.{All}
 use Rattle.base.specs.Groups.{inGroups, byteBitStray}
 use Rattle.base.specs.Packed.{bit, byteOf}
-use Rattle.base.proofs.ListLaws.{by-order}
 use Rattle.base.proofs.BitLaws.{bit-byteOf, clear-stray}
 use Rattle.base.proofs.GroupLaws.{inGroups-map, inGroups-small, flatten-inGroups}
 use Rattle.base.proofs.Tests.{neither-or}
-use Rattle.dna.specs.Record.{ReadContext, StoredRecord, recordBytes}
+use Rattle.dna.specs.Record.{ReadContext, recordBytes}
 use Rattle.dna.specs.Alignment.{positionAfter}
-use Rattle.dna.specs.Division.{
-  GroupFlags,
-  Piece,
-  Group,
-  Division,
-  Slot,
-  Read,
-  divisionBytes,
-  contextOf,
-  groupSlots,
-  slots,
-  readsFrom,
-  readsOf,
-  groupBitStray,
-  ReadMeets,
-  GroupMeets,
-  GroupsMeet,
-  Divides,
-}
+use Rattle.dna.specs.Division.{GroupFlags, Piece, Slot, Read, divisionBytes, contextOf, groupSlots, slots, readsFrom, readsOf, groupBitStray, ReadMeets, GroupsMeet, Divides}
 use Rattle.format.specs.FixedRule.{
   Candidate,
   Choice,

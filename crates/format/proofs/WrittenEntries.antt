@@ -3,18 +3,17 @@
 use mathlib.Core.Path.{_≡_, refl, sym, ap, ap₂, _∙_, subst}
 use Prim.Native.Nat.{ℕ, zero, suc, _+_, _-_, _*_, _/_, _≤_, _<_}
 use native.Mathlib.Omega.{arith}
-use mathlib.Core.Bool.{Bool, true, false, cond, not, _&&_, _||_}
+use mathlib.Core.Bool.{cond}
 use mathlib.Core.List.{List, [], _∷_, _++_, map, append-assoc}
-use lib.ListN.{length, getD, length-append}
+use lib.ListN.{getD}
 use lib.Dec.{eqb}
-use borrow.Author.Tests.{eqb-true, eqb-false, eq-eqb, ne-eqb}
-use Rattle.base.specs.Lists.{build, any, member, indexOf, placesFrom, placesWhere, All}
+use borrow.Author.Tests.{eqb-true, ne-eqb}
+use Rattle.base.specs.Lists.{build, any, member, indexOf, placesFrom, All}
 use Rattle.base.proofs.ListLaws.{by-order, by-test, build-cong, all-append, all-build}
-use Rattle.base.proofs.PlacesLaws.{Rise, rise-weaken, places-rise, member-places}
-use Rattle.base.proofs.Tests.{absurd-test, and-first}
+use Rattle.base.proofs.PlacesLaws.{Rise, rise-weaken}
 use Rattle.dna.specs.Record.{Entry, EntryFits}
 use Rattle.dna.proofs.OffsetLaws.{Steps}
-use Rattle.format.specs.FixedRule.{Gap, fillerCount, gapEntries, entriesOfGaps, differsAt, gapsTo, gapsOf}
+use Rattle.format.specs.FixedRule.{Gap, fillerCount, gapEntries, entriesOfGaps, gapsTo}
 
 -- ---- What stands at a letter
 

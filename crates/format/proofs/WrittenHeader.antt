@@ -1,31 +1,20 @@
 -- The header that the fixed rule writes, and the sections that it leads to. Assumes nothing.
-use mathlib.Core.Path.{_≡_, refl, sym, ap, ap₂, _∙_, subst}
-use Prim.Native.Nat.{ℕ, zero, suc, _+_, _-_, _*_, _/_, _^_, _≤_, _<_}
+use mathlib.Core.Path.{_≡_, refl, sym, ap, _∙_}
+use Prim.Native.Nat.{ℕ, _+_, _*_, _^_, _≤_, _<_}
 use native.Mathlib.Omega.{arith}
-use mathlib.Core.Bool.{Bool, true, false, cond, not, _&&_, _||_}
-use mathlib.Core.List.{List, [], _∷_, _++_, map, flatten}
-use lib.ListN.{length, getD, take, drop, length-append}
+use mathlib.Core.Bool.{Bool, true, false, cond, not, _&&_}
+use mathlib.Core.List.{List, [], _∷_, _++_, flatten}
+use lib.ListN.{length, getD, length-append}
 use lib.Dec.{ltb, eqb}
-use lib.IntN.{ℤ, pos}
 use borrow.Author.Tests.{ltb-false}
-use Rattle.base.specs.Lists.{part, any, total, All, AllBytes}
+use Rattle.base.specs.Lists.{part, any, total, AllBytes}
 use Rattle.base.specs.Groups.{groupCount}
 use Rattle.base.specs.Numbers.{leBytes, nonNegative}
-use Rattle.base.specs.Place.{At}
 use Rattle.base.specs.Lists.{build}
-use Rattle.base.proofs.ListLaws.{by-test, below-nil, below-append}
-use Rattle.base.proofs.NumberLaws.{leBytes-bytes}
+use Rattle.base.proofs.ListLaws.{by-test, below-nil}
 use Rattle.base.proofs.PlaceLaws.{at-self, at-left, at-right, at-part, at-to}
 use Rattle.base.proofs.Tests.{or-neither}
-use Rattle.dna.specs.Sizes.{
-  StoredSize,
-  same,
-  inByte,
-  inWords,
-  storedBytes,
-  lengthInvalid,
-  sizeSectionBytes,
-}
+use Rattle.dna.specs.Sizes.{same, inByte, inWords, storedBytes, lengthInvalid}
 use Rattle.dna.proofs.SizeLaws.{sizeSection-bytes}
 use Rattle.dna.proofs.SizeBytesLaws.{length-varint16, storedTotal, length-sizeSection}
 use Rattle.format.specs.Header.{Header, headerOf}

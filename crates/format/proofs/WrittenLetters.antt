@@ -1,30 +1,20 @@
 -- The letters of a record that the fixed rule writes are the read's. Assumes nothing.
-use mathlib.Core.Path.{_≡_, refl, sym, ap, ap₂, _∙_, subst}
-use Prim.Native.Nat.{ℕ, zero, suc, _+_, _-_, _*_, _/_, _≤_, _<_, min}
+use mathlib.Core.Path.{_≡_, refl, sym, ap, ap₂, _∙_}
+use Prim.Native.Nat.{ℕ, _+_, _-_, _≤_, _<_}
 use native.Mathlib.Omega.{arith}
-use mathlib.Core.Bool.{Bool, true, false, cond, not, _&&_, _||_}
+use mathlib.Core.Bool.{Bool, true, false, cond, not}
 use mathlib.Core.List.{List, [], _∷_, _++_, map}
-use lib.ListN.{length, getD, take, drop, length-append, length-map, length-take, length-drop, List·getD-map, List·getD-append, List·getD-eq-default}
+use lib.ListN.{length, getD, take, drop, length-map, length-drop, List·getD-map, List·getD-append}
 use lib.Seq.{getD-take, getD-drop, getD-append-add, length-take-le, ext-getD}
-use lib.Dec.{leb, ltb, eqb}
-use borrow.Author.Tests.{ltb-true, ltb-false, leb-true, eqb-true, eqb-false, lt-ltb, le-ltb, eq-eqb, ne-eqb}
-use Rattle.base.specs.Lists.{build, part, any, member, indexOf, placesFrom, placesWhere, stepsFrom}
-use Rattle.base.proofs.ListLaws.{by-order, by-test, length-build, getD-build, build-cong}
-use Rattle.base.proofs.PlacesLaws.{Rise, places-rise, member-places, places-steps}
+use lib.Dec.{leb, eqb}
+use borrow.Author.Tests.{leb-true, eqb-true, lt-ltb, le-ltb}
+use Rattle.base.specs.Lists.{part, member, placesFrom, placesWhere}
+use Rattle.base.proofs.ListLaws.{by-order, by-test, length-build, getD-build}
+use Rattle.base.proofs.PlacesLaws.{places-rise, member-places, places-steps}
 use Rattle.base.proofs.ScanLaws.{cond-yes, cond-no}
-use Rattle.base.proofs.Tests.{absurd-test, and-both, or-neither, neither-or, or-right, and-first, not-false, false-not, true-not}
+use Rattle.base.proofs.Tests.{and-both, and-first, not-false, false-not}
 use Rattle.dna.specs.Reference.{strandBase, stretchIndex, letterOfCode}
-use Rattle.dna.specs.Record.{
-  ReadContext,
-  Entry,
-  RecordFields,
-  perfect,
-  global,
-  local,
-  raw,
-  raw4,
-  StoredRecord,
-}
+use Rattle.dna.specs.Record.{ReadContext, Entry, RecordFields, StoredRecord}
 use Rattle.dna.specs.Alignment.{
   isAligned,
   fieldOf,
@@ -39,37 +29,8 @@ use Rattle.dna.specs.Alignment.{
   entryPlaces,
   nPositions,
 }
-use Rattle.dna.specs.Letters.{
-  nList,
-  rawCode,
-  clippedCode,
-  entryCode,
-  referenceCode,
-  alignedCause,
-  fieldsCause,
-  causeAt,
-  packedCodes,
-  codeOf,
-  recordLetters,
-}
-use Rattle.format.specs.FixedRule.{
-  Candidate,
-  nOffsetsOf,
-  differsAt,
-  gapsOf,
-  gapsTo,
-  entriesOfGaps,
-  padded,
-  withoutN,
-  alignedCount,
-  expectedAt,
-  candidateGaps,
-  candidateEntries,
-  clippedCodes,
-  stepFits,
-  fieldFor,
-  alignedFields,
-}
+use Rattle.dna.specs.Letters.{alignedCause, fieldsCause, causeAt, packedCodes, codeOf, recordLetters}
+use Rattle.format.specs.FixedRule.{Candidate, nOffsetsOf, differsAt, gapsOf, padded, withoutN, alignedCount, expectedAt, candidateGaps, candidateEntries, clippedCodes, stepFits, fieldFor, alignedFields}
 use Rattle.format.proofs.WrittenEntries.{lookup, lookup-places, lookup-entries}
 
 -- ---- N

@@ -1,14 +1,13 @@
 -- A record that the fixed rule writes meets the rules, and its letters are the read's. Assumes nothing.
-use mathlib.Core.Path.{_≡_, refl, sym, ap, ap₂, _∙_, subst}
-use Prim.Native.Nat.{ℕ, zero, suc, _+_, _-_, _*_, _/_, _^_, _≤_, _<_}
-use native.Mathlib.Nat.{not-suc-le-zero}
+use mathlib.Core.Path.{_≡_, refl, sym, ap, _∙_, subst}
+use Prim.Native.Nat.{ℕ, zero, suc, _+_, _-_, _*_, _^_, _≤_, _<_}
 use native.Mathlib.Omega.{arith}
-use mathlib.Core.Bool.{Bool, true, false, cond, not, _&&_, _||_}
+use mathlib.Core.Bool.{Bool, true, false, not, _||_}
 use mathlib.Core.List.{List, [], _∷_, _++_, map}
 use lib.ListN.{length, getD, take, drop, replicate, length-append, length-map, length-replicate, getD-replicate, length-take, length-drop, List·getD-map, List·getD-eq-default}
 use lib.Seq.{length-take-le, getD-take, getD-drop}
 use lib.Dec.{leb, ltb, eqb}
-use borrow.Author.Tests.{ltb-true, ltb-false, leb-true, eqb-true, eqb-false, eq-eqb}
+use borrow.Author.Tests.{ltb-true, ltb-false, leb-true, eqb-false}
 use Rattle.base.specs.Lists.{build, part, any, member, keep, placesWhere, placesFrom, stepsFrom, Below, All}
 use Rattle.base.specs.Packed.{packedLength}
 use Rattle.base.specs.Faults.{NoneFits}
@@ -18,60 +17,16 @@ use Rattle.base.proofs.FaultLaws.{any-none}
 use Rattle.base.proofs.PackedLaws.{packedLength-holds}
 use Rattle.base.proofs.PlacesLaws.{Rise, rise-weaken, places-rise, any-places, places-any}
 use Rattle.base.proofs.StepsLaws.{length-stepsFrom}
-use Rattle.base.proofs.Tests.{absurd-test, and-both, neither-or, or-neither, not-true}
-use Rattle.dna.specs.Reference.{ReferenceFits, letterOfCode}
-use Rattle.dna.specs.Record.{
-  ReadContext,
-  Entry,
-  EntryFits,
-  PackedCodes,
-  PackedFits,
-  RecordFields,
-  perfect,
-  global,
-  local,
-  raw,
-  raw4,
-  StoredRecord,
-  fieldWidth,
-  hasNList,
-  FieldsFit,
-  NListFits,
-  RecordFits,
-}
+use Rattle.base.proofs.Tests.{absurd-test, and-both, neither-or, not-true}
+use Rattle.dna.specs.Reference.{letterOfCode}
+use Rattle.dna.specs.Record.{ReadContext, Entry, EntryFits, PackedFits, RecordFields, fieldWidth, hasNList, FieldsFit, NListFits, RecordFits}
 use Rattle.dna.specs.Alignment.{isAligned, entriesOf, alignedLength, leftmost, leftmostOf, nPositions, position}
 use Rattle.dna.specs.RecordFaults.{raw4Codes, paddingOf, recordFaults}
-use Rattle.dna.specs.Letters.{fieldsCause, causeAt, packedCodes, codeOf, recordLetters, rawCode}
+use Rattle.dna.specs.Letters.{fieldsCause, causeAt, packedCodes, codeOf, recordLetters}
 use Rattle.dna.proofs.OffsetLaws.{Steps}
 use Rattle.dna.proofs.ReferenceLaws.{strandBase-below}
-use Rattle.dna.proofs.RulesMean.{CountHolds, ClipsHold, Raw4BitHolds, NListHolds, RulesHold, rules-mean}
-use Rattle.format.specs.FixedRule.{
-  Candidate,
-  nOffsetsOf,
-  differsAt,
-  gapsOf,
-  padded,
-  withoutN,
-  alignedCount,
-  expectedAt,
-  candidateGaps,
-  candidateEntries,
-  clippedCodes,
-  placeUsed,
-  stepFits,
-  fieldFor,
-  alignedFields,
-  isPerfect,
-  contextFor,
-  Choice,
-  chooseRaw4,
-  chooseAligned,
-  chooseRaw,
-  choiceFor,
-  Written,
-  writtenAs,
-  written,
-}
+use Rattle.dna.proofs.RulesMean.{CountHolds, ClipsHold, Raw4BitHolds, NListHolds, rules-mean}
+use Rattle.format.specs.FixedRule.{Candidate, nOffsetsOf, differsAt, gapsOf, padded, withoutN, alignedCount, expectedAt, candidateGaps, candidateEntries, clippedCodes, placeUsed, stepFits, fieldFor, alignedFields, isPerfect, chooseRaw4, chooseAligned, chooseRaw, choiceFor, Written, writtenAs, written}
 use Rattle.format.proofs.WrittenEntries.{steps-entries, entries-fit}
 use Rattle.format.proofs.WrittenLetters.{
   AtPlace,

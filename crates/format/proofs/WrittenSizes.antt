@@ -1,30 +1,18 @@
 -- The size section that the fixed rule writes stores the lengths, and its header gives them where all are equal.
 -- Assumes nothing.
-use mathlib.Core.Path.{_≡_, refl, sym, ap, ap₂, _∙_, subst}
-use Prim.Native.Nat.{ℕ, zero, suc, _+_, _≤_, _<_}
+use mathlib.Core.Path.{_≡_, refl, sym, ap, ap₂, _∙_}
+use Prim.Native.Nat.{ℕ, suc, _<_}
 use native.Mathlib.Omega.{arith}
-use mathlib.Core.Bool.{Bool, true, false, cond, not, _&&_, _||_}
-use mathlib.Core.List.{List, [], _∷_, map}
+use mathlib.Core.Bool.{Bool, true, false, not, _&&_}
+use mathlib.Core.List.{List, [], _∷_}
 use lib.ListN.{length, getD, replicate}
 use lib.Dec.{ltb, eqb}
 use borrow.Author.Tests.{ltb-true, eqb-true}
 use Rattle.base.specs.Lists.{any, All}
 use Rattle.base.proofs.ListLaws.{by-test}
 use Rattle.base.proofs.Tests.{and-both, or-neither, not-true, not-false}
-use Rattle.dna.specs.Sizes.{
-  StoredSize,
-  same,
-  inByte,
-  inWords,
-  isSame,
-  sizeSectionBytes,
-  lengthsFrom,
-  lengthInvalid,
-  StoredFits,
-  firstIsSame,
-  SizesStored,
-}
-use Rattle.format.specs.FixedRule.{storedFrom, allEqual, writtenSizes}
+use Rattle.dna.specs.Sizes.{isSame, sizeSectionBytes, lengthsFrom, lengthInvalid, StoredFits, firstIsSame, SizesStored}
+use Rattle.format.specs.FixedRule.{storedFrom, allEqual}
 
 pub length-storedFrom : (has : Bool) (previous : ℕ) (lengths : List ℕ) → length (storedFrom has previous lengths) ≡ length lengths
 unfolding storedFrom

@@ -1,16 +1,16 @@
 -- The block that the fixed rule writes is well-formed, and divided as the rule says. Assumes nothing.
 use mathlib.Core.Path.{_≡_, refl, sym, ap, ap₂, _∙_, subst}
-use Prim.Native.Nat.{ℕ, zero, suc, _+_, _-_, _*_, _/_, _%_, _^_, _≤_, _<_}
+use Prim.Native.Nat.{ℕ, suc, _-_, _^_, _≤_, _<_}
 use native.Mathlib.Omega.{arith}
-use mathlib.Core.Bool.{Bool, true, false, cond, not, _&&_, _||_}
-use mathlib.Core.List.{List, [], _∷_, _++_, map, flatten}
-use lib.ListN.{length, getD, length-append, length-map}
+use mathlib.Core.Bool.{Bool, true, false, cond, not, _||_}
+use mathlib.Core.List.{List, [], _∷_, map, flatten}
+use lib.ListN.{length, getD, length-map}
 use lib.Dec.{ltb, eqb}
 use lib.IntN.{ℤ, pos, negsuc}
 use borrow.Author.Tests.{le-ltb, eq-eqb}
-use Rattle.base.specs.Lists.{any, total, All, AllBytes}
+use Rattle.base.specs.Lists.{any, total, AllBytes}
 use Rattle.base.specs.Groups.{groupCount}
-use Rattle.base.specs.Numbers.{leBytes, nonNegative}
+use Rattle.base.specs.Numbers.{nonNegative}
 use Rattle.base.specs.Faults.{NoneFits}
 use Rattle.base.proofs.ListLaws.{by-test, below-nil, below-append}
 use Rattle.base.proofs.NumberLaws.{leBytes-bytes}
@@ -32,41 +32,13 @@ use Rattle.format.specs.HeaderFaults.{
   sectionsTruncated,
   headerFaults,
 }
-use Rattle.format.specs.Lengths.{
-  HeaderLengths,
-  SectionLengths,
-  LengthsBy,
-  LengthsAre,
-  dnaSizeWrong,
-  nSectionWrong,
-  lengthFaults,
-}
+use Rattle.format.specs.Lengths.{LengthsBy, dnaSizeWrong, nSectionWrong, lengthFaults}
 use Rattle.format.specs.WellFormed.{BlockDivision, DividesBlock, WellFormed}
-use Rattle.format.specs.FixedRule.{
-  Candidate,
-  writtenFrom,
-  writtenDivision,
-  writtenNSection,
-  storedFrom,
-  allEqual,
-  writtenSizes,
-  int32Bytes,
-  headerBytes,
-  writtenHeader,
-  writtenBlock,
-  ruleBlock,
-}
+use Rattle.format.specs.FixedRule.{Candidate, writtenDivision, writtenNSection, storedFrom, allEqual, writtenSizes, int32Bytes, headerBytes, writtenHeader, writtenBlock, ruleBlock}
 use Rattle.format.proofs.WrittenSizes.{sizes-written, equal-lengths}
 use Rattle.format.proofs.WrittenDivision.{written-divides}
 use Rattle.format.proofs.WrittenBlock.{WrittenReads, SectionsSmall, sections-small, all-meet}
-use Rattle.format.proofs.WrittenHeader.{
-  sizes-short,
-  sizes-bytes,
-  HeaderGiven,
-  blockFrom,
-  BlockParts,
-  block-parts,
-}
+use Rattle.format.proofs.WrittenHeader.{sizes-short, sizes-bytes, blockFrom, BlockParts, block-parts}
 
 -- ---- Lengths
 

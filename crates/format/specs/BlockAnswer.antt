@@ -2,7 +2,7 @@
 -- the reference, the header, the lengths, the N section, the DNA section, and for decoding the room. A stage gives
 -- the first fault of its list that fits, or hands on. The block stands at the input's start; what follows it is not
 -- looked at.
-use Prim.Native.Nat.{ℕ, _+_}
+use Prim.Native.Nat.{ℕ}
 use mathlib.Core.Bool.{Bool, true, cond, _&&_, _||_}
 use mathlib.Core.List.{List, [], _∷_, flatten}
 use lib.ListN.{length, replicate}

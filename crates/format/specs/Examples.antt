@@ -5,13 +5,13 @@ use mathlib.Core.Path.{_≡_}
 use mathlib.Core.List.{List, [], _∷_, _++_, map}
 use lib.ListN.{replicate}
 use Rattle.base.specs.Lists.{build}
-use Rattle.dna.specs.Record.{Entry, RecordFields, global, raw, StoredRecord}
-use Rattle.dna.specs.Sums.{A, C, G, T, N, reference, packed, entry}
+use Rattle.dna.specs.Record.{global, raw}
+use Rattle.dna.specs.Sums.{A, C, T, reference, packed, entry}
 use Rattle.format.specs.HeaderFaults.{headerFaults}
 use Rattle.format.specs.Lengths.{lengthFaults}
 use Rattle.format.specs.WellFormed.{WellFormed}
 use Rattle.format.specs.EncodeAnswer.{EncodeInput, encodeFaults}
-use Rattle.format.specs.Outcome.{Outcome, refusal, acceptedBlock, acceptedFile}
+use Rattle.format.specs.Outcome.{refusal, acceptedBlock, acceptedFile}
 use Rattle.format.specs.BlockAnswer.{decoded, decodedLetters, decodedEnds, idAnswer}
 use Rattle.format.specs.FileAnswer.{validated}
 use Rattle.format.specs.FixedRule.{Candidate, writtenFrom}

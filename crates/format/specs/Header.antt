@@ -2,8 +2,7 @@
 -- bytes; extra bytes of a longer header are skipped.
 use Prim.Native.Nat.{ℕ, _/_, _%_}
 use mathlib.Core.Bool.{Bool}
-use mathlib.Core.List.{List, [], _∷_}
-use lib.ListN.{getD}
+use mathlib.Core.List.{List}
 use lib.IntN.{ℤ}
 use lib.Dec.{eqb}
 use Rattle.base.specs.Numbers.{le, int32, nonNegative}

@@ -1,10 +1,10 @@
 -- Lengths (01, Lengths): those that the header or the size section gives, and the faults 9, 10 and 11 by length.
-use Prim.Native.Nat.{ℕ, _≤_, _<_}
+use Prim.Native.Nat.{ℕ, _<_}
 use mathlib.Core.Path.{_≡_}
 use mathlib.Core.Bool.{Bool, true, false, not}
 use mathlib.Core.List.{List, [], _∷_}
 use lib.ListN.{length, replicate}
-use lib.IntN.{ℤ, pos}
+use lib.IntN.{pos}
 use lib.Dec.{eqb}
 use Rattle.base.specs.Lists.{total}
 use Rattle.base.specs.Faults.{Fault, fault}

@@ -1,7 +1,7 @@
 -- The lengths read by read, from a cursor on. The cursor holds the flag bytes of the group, shifted
 -- so that the bit of the next read is the highest. Laws join it to specs/SizesAt.antt of dna.
 use Prim.Native.Nat.{ℕ, zero, suc, _+_, _*_, _%_}
-use mathlib.Core.Bool.{Bool, true, false, cond, not, _&&_}
+use mathlib.Core.Bool.{Bool, cond, not, _&&_}
 use mathlib.Core.List.{List, [], _∷_}
 use mathlib.Core.Option.{Option, none, some}
 use lib.ListN.{length, getD}

@@ -1,23 +1,20 @@
 -- A file of well-formed blocks is accepted with their divisions; an accepted file is joined from well-formed
 -- blocks; and that list is unique. Assumes nothing.
 use mathlib.Core.Path.{_≡_, refl, sym, ap, ap₂, _∙_, subst}
-use Prim.Native.Nat.{ℕ, zero, suc, _+_, _-_, _≤_, _<_}
+use Prim.Native.Nat.{ℕ, zero, suc, _+_, _≤_, _<_}
 use native.Mathlib.Omega.{arith}
-use mathlib.Core.Bool.{Bool, true, false, cond}
 use mathlib.Core.List.{List, [], _∷_, _++_, flatten, append-nil, append-assoc}
-use lib.ListN.{length, getD, take, drop, length-append, length-drop}
-use lib.Seq.{take-at, drop-at, getD-drop}
-use Rattle.base.specs.Lists.{All, AllBytes}
+use lib.ListN.{length, take, drop, length-append}
+use lib.Seq.{take-at, drop-at}
+use Rattle.base.specs.Lists.{AllBytes}
 use Rattle.base.proofs.ScanLaws.{cond-no}
 use Rattle.base.proofs.ListLaws.{all-right, below-drop}
-use Rattle.dna.specs.Reference.{referenceSizeWrong, ReferenceFits}
-use Rattle.dna.specs.Counts.{Counted}
-use Rattle.dna.proofs.OneDivision.{one-division}
+use Rattle.dna.specs.Reference.{ReferenceFits}
 use Rattle.format.specs.Header.{headerOf, readCount}
-use Rattle.format.specs.Sections.{blockLength, sectionOf, dnaNumber, nNumber}
-use Rattle.format.specs.WellFormed.{BlockDivision, DividesBlock, WellFormed}
+use Rattle.format.specs.Sections.{blockLength}
+use Rattle.format.specs.WellFormed.{BlockDivision, WellFormed}
 use Rattle.format.specs.Joined.{Joined, AllWellFormed, DivideBlocks, fileCounts}
-use Rattle.format.specs.Outcome.{Outcome, acceptedFile, modulo64}
+use Rattle.format.specs.Outcome.{acceptedFile, modulo64}
 use Rattle.format.specs.BlockAnswer.{BlockAnswer, accepts, refuses, blockAnswer}
 use Rattle.format.specs.FileAnswer.{
   FileAnswer,
@@ -30,9 +27,9 @@ use Rattle.format.specs.FileAnswer.{
   fileOutcome,
   validated,
 }
-use Rattle.format.proofs.HeaderLaws.{HeaderRight, faults-right, headerOf-append}
-use Rattle.format.proofs.BlockLaws.{one-lengths, block-accepts, block-found, FirstBlock, first-block}
-use Rattle.format.proofs.AnswerNumbers.{OwnRefusal, AnswerOwn, block-own}
+use Rattle.format.proofs.HeaderLaws.{faults-right}
+use Rattle.format.proofs.BlockLaws.{block-accepts, block-found, FirstBlock, first-block}
+use Rattle.format.proofs.AnswerNumbers.{AnswerOwn, block-own}
 use Rattle.format.proofs.ReadsExactly.Answers.{block-length}
 
 -- A well-formed block holds its table of contents.

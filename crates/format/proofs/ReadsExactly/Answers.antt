@@ -1,14 +1,13 @@
 -- What decoding and judging answer for a well-formed block, and what an accepted answer means. Assumes nothing.
 use mathlib.Core.Path.{_≡_, refl, sym, ap, _∙_, subst}
-use Prim.Native.Nat.{ℕ, _≤_, _<_}
+use Prim.Native.Nat.{ℕ}
 use native.Mathlib.Omega.{arith}
-use mathlib.Core.Bool.{Bool, true, false, _||_}
-use mathlib.Core.List.{List, [], _∷_, _++_, flatten}
+use mathlib.Core.Bool.{_||_}
+use mathlib.Core.List.{List, _++_, flatten}
 use lib.ListN.{length}
 use lib.Dec.{ltb}
 use borrow.Author.Tests.{ltb-false, le-ltb}
 use Rattle.base.specs.Lists.{any}
-use Rattle.base.specs.Faults.{fault}
 use Rattle.base.specs.Paste.{pasted}
 use Rattle.base.proofs.Tests.{or-neither, neither-or}
 use Rattle.dna.specs.Reference.{ReferenceFits}
@@ -17,27 +16,12 @@ use Rattle.format.specs.Header.{headerOf, readCount}
 use Rattle.format.specs.Sections.{blockLength}
 use Rattle.format.specs.WellFormed.{BlockDivision, DividesBlock, WellFormed}
 use Rattle.format.specs.Joined.{blockReads, blockCounts}
-use Rattle.format.specs.Outcome.{Outcome, acceptedBlock}
-use Rattle.format.specs.BlockAnswer.{
-  BlockAnswer,
-  accepts,
-  refuses,
-  stage,
-  blockAnswer,
-  blockOutcome,
-  validatedBlock,
-  roomAnswer,
-  decodeAnswer,
-  decoded,
-  lettersAfter,
-  endsAfter,
-  decodedLetters,
-  decodedEnds,
-}
+use Rattle.format.specs.Outcome.{acceptedBlock}
+use Rattle.format.specs.BlockAnswer.{BlockAnswer, accepts, refuses, blockAnswer, blockOutcome, validatedBlock, roomAnswer, decodeAnswer, decoded, lettersAfter, endsAfter, decodedLetters, decodedEnds}
 use Rattle.format.specs.Demands.{Room, Decodes}
-use Rattle.format.proofs.HeaderLaws.{HeaderRight, faults-right, headerOf-append}
+use Rattle.format.proofs.HeaderLaws.{faults-right, headerOf-append}
 use Rattle.format.proofs.BlockLaws.{absurd-accepts, accepts-same, stage-none, stage-accepts, block-accepts}
-use Rattle.format.proofs.AnswerNumbers.{OwnRefusal, AnswerOwn, block-own, decode-own}
+use Rattle.format.proofs.AnswerNumbers.{AnswerOwn, block-own, decode-own}
 
 -- The length of a well-formed block is what its header says, whatever follows.
 pub block-length : (bases : ℕ) (block rest : List ℕ) → WellFormed bases block → blockLength (headerOf (block ++ rest)) ≡ length block

@@ -2,16 +2,16 @@
 use mathlib.Core.Path.{_≡_, refl, sym, ap, ap₂, _∙_, subst}
 use Prim.Native.Nat.{ℕ, zero, suc, _+_, _≤_, _<_}
 use native.Mathlib.Omega.{arith}
-use mathlib.Core.Bool.{Bool, true, false, cond, _&&_, _||_}
+use mathlib.Core.Bool.{Bool, true, false, cond}
 use mathlib.Core.List.{List, [], _∷_, _++_, flatten, append-assoc}
 use lib.ListN.{length, drop, length-append}
 use lib.Seq.{drop-at}
-use lib.Dec.{leb, ltb, eqb}
-use borrow.Author.Tests.{le-leb, eqb-false, ne-eqb}
+use lib.Dec.{leb, eqb}
+use borrow.Author.Tests.{le-leb, eqb-false}
 use Rattle.base.specs.Lists.{All, AllBytes}
-use Rattle.base.specs.Faults.{Fault, fault}
+use Rattle.base.specs.Faults.{Fault}
 use Rattle.base.specs.Scan.{firstNumber}
-use Rattle.base.proofs.Tests.{both-and, or-right}
+use Rattle.base.proofs.Tests.{both-and}
 use Rattle.base.proofs.ScanLaws.{cond-yes, cond-parts}
 use Rattle.dna.specs.Reference.{referenceSizeWrong}
 use Rattle.format.specs.Header.{headerOf, readCount}

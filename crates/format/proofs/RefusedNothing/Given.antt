@@ -1,6 +1,6 @@
 -- When each number outside the DNA section is given. Assumes nothing.
-use mathlib.Core.Path.{_≡_, refl, sym, ap, _∙_, subst}
-use Prim.Native.Nat.{ℕ, zero, suc, _+_, _≤_, _<_}
+use mathlib.Core.Path.{_≡_, refl, sym, ap, _∙_}
+use Prim.Native.Nat.{ℕ, _≤_, _<_}
 use native.Mathlib.Omega.{arith}
 use mathlib.Core.Bool.{Bool, true, false, cond, _||_}
 use mathlib.Core.Logic.{_↔_}
@@ -9,8 +9,7 @@ use lib.ListN.{length, take}
 use lib.Dec.{ltb}
 use borrow.Author.Tests.{ltb-true, ltb-false, lt-ltb}
 use Rattle.base.specs.Lists.{All, any, AllBytes}
-use Rattle.base.specs.Groups.{groupCount}
-use Rattle.base.specs.Faults.{Fault, fault, NoneFits}
+use Rattle.base.specs.Faults.{Fault, NoneFits}
 use Rattle.base.specs.Scan.{Scan, found, refused, firstNumber}
 use Rattle.base.proofs.ListLaws.{by-test}
 use Rattle.base.proofs.ScanLaws.{cond-yes, cond-no}
@@ -19,15 +18,14 @@ use Rattle.dna.specs.Reference.{referenceSizeWrong, ReferenceFits}
 use Rattle.dna.specs.Division.{Division, Divides}
 use Rattle.dna.specs.Walk.{Walk, walked, stopped, sectionWalk}
 use Rattle.dna.proofs.WalkFinds.{front-walk}
-use Rattle.dna.proofs.WalkFound.{FrontFound, walk-front}
-use Rattle.dna.proofs.WalkNumbers.{Own, walk-own}
-use Rattle.format.specs.Header.{headerOf, readCount}
+use Rattle.dna.proofs.WalkFound.{walk-front}
+use Rattle.dna.proofs.WalkNumbers.{walk-own}
 use Rattle.format.specs.Sections.{dnaNumber, sizeNumber, nNumber, sectionOf}
 use Rattle.format.specs.HeaderFaults.{headerFaults}
-use Rattle.format.specs.Lengths.{LengthsAre, LengthsInvalid, nSectionWrong, dnaSizeWrong, lengthFaults}
+use Rattle.format.specs.Lengths.{LengthsAre, LengthsInvalid, lengthFaults}
 use Rattle.format.specs.WellFormed.{BlockDivision}
-use Rattle.format.specs.Joined.{blockReads, blockCounts}
-use Rattle.format.specs.Outcome.{Outcome, refusal, acceptedBlock}
+use Rattle.format.specs.Joined.{blockReads}
+use Rattle.format.specs.Outcome.{Outcome, refusal}
 use Rattle.format.specs.BlockAnswer.{
   BlockAnswer,
   accepts,

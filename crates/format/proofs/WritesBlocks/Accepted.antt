@@ -1,26 +1,24 @@
 -- The writer accepts exactly the reads within the limits for which there is room. Assumes nothing.
-use mathlib.Core.Path.{_≡_, refl, sym, ap, ap₂, _∙_, subst}
-use Prim.Native.Nat.{ℕ, zero, suc, _+_, _-_, _≤_, _<_}
+use mathlib.Core.Path.{_≡_, refl, sym, ap, ap₂, _∙_}
+use Prim.Native.Nat.{ℕ, _+_, _≤_, _<_}
 use native.Mathlib.Omega.{arith}
-use mathlib.Core.Bool.{Bool, true, false, cond, not, _||_}
+use mathlib.Core.Bool.{Bool, true, false, cond, not}
 use mathlib.Core.List.{List, [], _∷_, _++_, map, flatten}
-use lib.ListN.{length, getD, take, drop, length-append, length-map, length-drop, take-append-drop}
+use lib.ListN.{length, getD, take, drop, length-map, length-drop, take-append-drop}
 use lib.Seq.{length-take-le}
 use lib.Dec.{ltb, eqb}
-use borrow.Author.Tests.{ltb-true, ltb-false, le-ltb, lt-ltb, eqb-true, eqb-false, eq-eqb}
+use borrow.Author.Tests.{ltb-false, le-ltb, eqb-true, eq-eqb}
 use Rattle.base.specs.Lists.{any, member, total, placesFrom, stepsFrom, All}
-use Rattle.base.specs.Faults.{Fault, NoneFits}
+use Rattle.base.specs.Faults.{NoneFits}
 use Rattle.base.specs.Scan.{firstNumber}
 use Rattle.base.proofs.FaultLaws.{any-firstNumber}
-use Rattle.base.proofs.ListLaws.{by-test}
 use Rattle.base.proofs.GroupLaws.{length-flatten}
 use Rattle.base.proofs.StepsLaws.{length-stepsFrom, steps-of-places, last-place}
-use Rattle.base.proofs.ScanLaws.{cond-yes, cond-no, cond-parts}
 use Rattle.base.proofs.Tests.{or-neither, neither-or, not-false, true-not, any-append}
 use Rattle.dna.specs.Reference.{alphabet, referenceSizeWrong, ReferenceFits}
 use Rattle.dna.specs.Sizes.{lengthInvalid}
 use Rattle.dna.specs.Counts.{zeroCounts}
-use Rattle.format.specs.Outcome.{Outcome, refusal, acceptedBlock}
+use Rattle.format.specs.Outcome.{refusal, acceptedBlock}
 use Rattle.format.specs.EncodeAnswer.{
   EncodeInput,
   blockOf,

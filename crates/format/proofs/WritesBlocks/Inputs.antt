@@ -1,26 +1,24 @@
 -- Reads and the buffers that lend them: each gives the other. Assumes nothing.
 use mathlib.Core.Path.{_≡_, refl, sym, ap, ap₂, _∙_, subst}
-use Prim.Native.Nat.{ℕ, zero, suc, _+_, _-_, _*_, _^_, _≤_, _<_}
+use Prim.Native.Nat.{ℕ, zero, suc, _+_, _-_, _^_, _<_}
 use native.Mathlib.Omega.{arith}
-use mathlib.Core.Bool.{Bool, true, false, cond, not, _||_}
+use mathlib.Core.Bool.{true, false}
 use mathlib.Core.List.{List, [], _∷_, _++_, map, flatten, append-assoc}
-use lib.ListN.{length, getD, take, drop, length-append, length-map, length-drop, take-append-drop}
-use lib.Seq.{length-take-le}
-use lib.Dec.{ltb, eqb}
-use borrow.Author.Tests.{eqb-true, eqb-false, ltb-false}
+use lib.ListN.{length, getD, take, drop, length-append, length-map}
+use lib.Dec.{eqb}
+use borrow.Author.Tests.{eqb-true, eqb-false}
 use Rattle.base.specs.Lists.{build, part, any, member, indexOf, total, placesFrom, stepsFrom, All, Below}
-use Rattle.base.proofs.ListLaws.{by-test, length-build, build-cong, all-build, below-at, below-nil, below-cons}
-use Rattle.base.proofs.GroupLaws.{map-build, length-flatten}
+use Rattle.base.proofs.ListLaws.{by-test, length-build, all-build, below-at, below-nil, below-cons}
+use Rattle.base.proofs.GroupLaws.{map-build}
 use Rattle.base.proofs.PlaceLaws.{at-middle, at-part}
 use Rattle.base.proofs.StepsLaws.{length-places, last-place}
-use Rattle.base.proofs.Tests.{absurd-test, or-neither, neither-or, not-false, true-not, any-append}
+use Rattle.base.proofs.Tests.{absurd-test, or-neither, neither-or}
 use Rattle.dna.specs.Reference.{alphabet, letterOfCode}
 use Rattle.dna.specs.Sizes.{lengthInvalid}
-use Rattle.format.specs.FixedRule.{Candidate, codeOfLetter}
+use Rattle.format.specs.FixedRule.{codeOfLetter}
 use Rattle.format.specs.EncodeAnswer.{EncodeInput, readsOfInput, candidatesOf}
 use Rattle.format.specs.Demands.{LentFits, Writable, codesOf}
 use Rattle.format.proofs.WrittenRecord.{CandidateFits}
-use Rattle.format.proofs.WrittenBlock.{WrittenReads}
 use Rattle.format.proofs.WrittenWellFormed.{RuleFits}
 
 -- ---- Letters and codes
