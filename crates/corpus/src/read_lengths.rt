@@ -55,7 +55,7 @@ fn put_lengths(input: &[u8])
     let section = ora::section(input, SIZE_SECTION);
     let fixed = flag_set(flags(input), SAME_LENGTH_FLAG);
     let each = l_read(input);
-    let reads = lengths::non_negative(n_reads(input));
+    let reads = integers::non_negative(n_reads(input));
     let number = lengths::lengths_fault(section, fixed, each, reads, raw_dna_size(input));
     if number != 0 {
         put_outcome(

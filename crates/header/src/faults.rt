@@ -5,7 +5,7 @@ use crate::fields::flags;
 use crate::fields::l_header;
 use crate::fields::magic;
 use crate::fields::n_reads;
-use crate::fields::non_negative;
+use crate::fields::signed_size;
 use crate::fields::version;
 use crate::sections::block_length;
 ghost use mathlib.Core.Path.{_≡_};
@@ -171,7 +171,7 @@ fn is_below(bound: usize, number: i32) -> bool
     ensures { λ r. ⌜ r ≡ signedBelow bound number ⌝ }
 {
     if 0 <= number {
-        return non_negative(number) < bound;
+        return signed_size(number) < bound;
     }
     true
 }
@@ -183,5 +183,5 @@ fn is_outside(bound: usize, number: i32) -> bool
     if number < 0 {
         return true;
     }
-    bound < non_negative(number)
+    bound < signed_size(number)
 }

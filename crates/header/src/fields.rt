@@ -1,6 +1,8 @@
 // The fields of a table of contents, each at its offset. Every `requires` says that the table is
 // there.
 use integers::i32_at;
+use integers::non_negative;
+use integers::size32;
 use integers::u16_at;
 use integers::u32_at;
 use integers::u64_at;
@@ -69,14 +71,11 @@ pub fn raw_dna_size(input: &[u8]) -> u32
     u32_at(input, 73)
 }
 
-// A signed number as a count: 0 where it is negative.
-pub fn non_negative(number: i32) -> usize
+// A signed number as a size: 0 where it is negative.
+pub fn signed_size(number: i32) -> usize
     ensures { λ r. ⌜ (r ≡ nonNegative number) × (r < 2 ^ 31) ⌝ }
 {
-    if number < 0 {
-        return 0;
-    }
-    number as usize
+    size32(non_negative(number))
 }
 
 // The length of the header with its extra bytes.
@@ -84,7 +83,7 @@ pub fn header_length(input: &[u8]) -> usize
     requires { ⌜ tableLength ≤ length (now input) ⌝ }
     ensures { λ r. ⌜ (r ≡ nonNegative (headerOf (now (input .entry)) .«l_header»)) × (r < 2 ^ 31) ⌝ }
 {
-    non_negative(l_header(input))
+    signed_size(l_header(input))
 }
 
 // The number of reads.
@@ -92,5 +91,5 @@ pub fn read_count(input: &[u8]) -> usize
     requires { ⌜ tableLength ≤ length (now input) ⌝ }
     ensures { λ r. ⌜ (r ≡ readCount (headerOf (now (input .entry)))) × (r < 2 ^ 31) ⌝ }
 {
-    non_negative(n_reads(input))
+    signed_size(n_reads(input))
 }

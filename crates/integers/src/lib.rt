@@ -4,7 +4,7 @@
 ghost use mathlib.Core.Path.{_≡_};
 ghost use Prim.Native.Nat.{_+_, _≤_, _<_, _^_};
 ghost use lib.ListN.{length};
-ghost use Rattle.base.specs.Numbers.{le, leBytes, int32};
+ghost use Rattle.base.specs.Numbers.{le, leBytes, int32, nonNegative};
 ghost use Rattle.base.specs.Paste.{pasted};
 
 // ---- Widening: the same number in a wider type, with the bound of the narrow one.
@@ -50,6 +50,16 @@ pub fn size64(x: u64) -> usize
     ensures { λ r. ⌜ (r ≡ x) × (r < 2 ^ 64) ⌝ }
 {
     x as usize
+}
+
+// A signed number as a count: 0 where it is negative.
+pub fn non_negative(number: i32) -> u32
+    ensures { λ r. ⌜ (r ≡ nonNegative number) × (r < 2 ^ 31) ⌝ }
+{
+    if number < 0 {
+        return 0;
+    }
+    number as u32
 }
 
 // ---- Reading

@@ -5,7 +5,6 @@ pub mod CursorLaws
 pub mod WordLaws
 pub mod StepLaws
 pub mod NextLaws
-pub mod SignLaws
 pub mod FixedLaws
 pub mod GivenLaws
 pub mod FormLaws

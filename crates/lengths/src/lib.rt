@@ -88,7 +88,7 @@ pub enum LengthsSum {
 pub fn first_cursor(fixed: bool, each: i32) -> SizeCursor
     ensures { λ r. ⌜ r ≡ firstCursor fixed (nonNegative each) ⌝ }
 {
-    let size = non_negative(each);
+    let size = integers::non_negative(each);
     SizeCursor {
         fixed: fixed,
         at: 0,
@@ -145,7 +145,7 @@ pub fn lengths_fault(section: &[u8], fixed: bool, each: i32, reads: u32, raw: u3
     ensures { λ r. ⌜ r ≡ lengthsNumber raw
         (lengthsFound (lengthsGiven fixed (nonNegative each) reads (now (section .entry)))) ⌝ }
 {
-    let size = non_negative(each);
+    let size = integers::non_negative(each);
     let LengthsSum::Found(sum) = lengths_sum(section, fixed, size, reads) else {
         return LENGTHS_INVALID;
     };
@@ -294,16 +294,6 @@ fn first_previous(fixed: bool, each: u32) -> u32
         return each;
     }
     0
-}
-
-// A signed number as a count; 0 where it is negative.
-pub fn non_negative(x: i32) -> u32
-    ensures { λ r. ⌜ r ≡ nonNegative x ⌝ }
-{
-    if x < 0 {
-        return 0;
-    }
-    x as u32
 }
 
 // Whether the section ends before the two bytes at `at` do.

@@ -105,6 +105,6 @@ fn lengths_fault(input: &[u8]) -> u32
 {
     let section = ora::section(input, SIZE_SECTION);
     let fixed = flag_set(flags(input), SAME_LENGTH_FLAG);
-    let reads = lengths::non_negative(n_reads(input));
+    let reads = integers::non_negative(n_reads(input));
     lengths::lengths_fault(section, fixed, l_read(input), reads, raw_dna_size(input))
 }

@@ -34,7 +34,7 @@ returns c =
       sizes = 0;
     })
     (c .first-previous .ensures ∙ ap (λ (n : ℕ). cond (a .fixed) n 0)
-    (c .before .non-negative .ensures ∙ ap nonNegative q))
+    (c .before .non-negative .ensures .0 ∙ ap nonNegative q))
 
 pub first-cursor-spec : {M : Type 1} → statement M
 first-cursor-spec = tie.close (tie.spec non-negative-requires first-previous-requires returns)

@@ -36,7 +36,7 @@ returns c =
     ≡ lengths-sum .result =
     ap
     (λ (n : ℕ). lengthsSum (lengthsFound (lengthsGiven (a .fixed) n (a .reads) (a .section .now))))
-    (sym (non-negative .ensures ∙ ap nonNegative q))
+    (sym (non-negative .ensures .0 ∙ ap nonNegative q))
     ∙ sym (lengths-sum .ensures) in
     sym (fault-lengths (a .raw) _ (given ∙ c .enum-told .given .1))
 
@@ -56,7 +56,7 @@ returns-2 c =
     ≡ lengths-sum .result =
     ap
     (λ (n : ℕ). lengthsSum (lengthsFound (lengthsGiven (a .fixed) n (a .reads) (a .section .now))))
-    (sym (non-negative .ensures ∙ ap nonNegative q))
+    (sym (non-negative .ensures .0 ∙ ap nonNegative q))
     ∙ sym (lengths-sum .ensures) in
     sym (fault-none (a .raw) _ _ (given ∙ sum .given .1)
     (sym (c .before .wide64 .ensures .0) ∙ c .if1 .taken))
@@ -74,7 +74,7 @@ returns-3 c =
     ≡ lengths-sum .result =
     ap
     (λ (n : ℕ). lengthsSum (lengthsFound (lengthsGiven (a .fixed) n (a .reads) (a .section .now))))
-    (sym (non-negative .ensures ∙ ap nonNegative q))
+    (sym (non-negative .ensures .0 ∙ ap nonNegative q))
     ∙ sym (lengths-sum .ensures) in
     sym (fault-size (a .raw) _ _ (given ∙ sum .given .1)
     (λ e. c .if1 .left (c .before .wide64 .ensures .0 ∙ e)))

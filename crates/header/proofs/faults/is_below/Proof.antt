@@ -12,15 +12,15 @@ use Rattle.format.proofs.SectionLaws.{signedBelow-negative, signedBelow-count}
 use Rattle.header.proofs.faults.is_below.Statement.{statement}
 use Rattle.header.proofs.faults.is_below.Tie as tie
 
-non-negative-requires : tie.Need-non-negative-requires
-non-negative-requires c κs = search needs
+signed-size-requires : tie.Need-signed-size-requires
+signed-size-requires c κs = search needs
 
 returns : tie.Need-returns
 returns c =
     let bound : ℕ = c .before .before .args .bound in
     let z : ℤ = c .before .before .args .number in
     let q : toZ w32 (ofZ w32 z) ≡ z = toZ-ofZ w32 z (c .before .before .fits .number) in
-    ap (λ (m : ℕ). ltb m bound) (c .non-negative .ensures .0 ∙ ap nonNegative q)
+    ap (λ (m : ℕ). ltb m bound) (c .signed-size .ensures .0 ∙ ap nonNegative q)
     ∙ sym (signedBelow-count bound z (rw q at (c .before .if1 .taken)))
 
 returns-2 : tie.Need-returns-2
@@ -30,4 +30,4 @@ returns-2 c =
     sym (signedBelow-negative (c .before .args .bound) z (rw q at (c .if1 .left)))
 
 pub is-below-spec : {M : Type 1} → statement M
-is-below-spec = tie.close (tie.spec non-negative-requires returns returns-2)
+is-below-spec = tie.close (tie.spec signed-size-requires returns returns-2)

@@ -18,16 +18,16 @@ returns c =
     let q : toZ w32 (ofZ w32 z) ≡ z = toZ-ofZ w32 z (c .before .fits .number) in
     sym (signedOutside-negative (c .before .args .bound) z (rw q at (c .if1 .taken)))
 
-non-negative-requires : tie.Need-non-negative-requires
-non-negative-requires c κs = search needs
+signed-size-requires : tie.Need-signed-size-requires
+signed-size-requires c κs = search needs
 
 returns-2 : tie.Need-returns-2
 returns-2 c =
     let bound : ℕ = c .before .before .args .bound in
     let z : ℤ = c .before .before .args .number in
     let q : toZ w32 (ofZ w32 z) ≡ z = toZ-ofZ w32 z (c .before .before .fits .number) in
-    ap (λ (m : ℕ). ltb bound m) (c .non-negative .ensures .0 ∙ ap nonNegative q)
+    ap (λ (m : ℕ). ltb bound m) (c .signed-size .ensures .0 ∙ ap nonNegative q)
     ∙ sym (signedOutside-count bound z (rw q at (c .before .if1 .left)))
 
 pub is-outside-spec : {M : Type 1} → statement M
-is-outside-spec = tie.close (tie.spec returns non-negative-requires returns-2)
+is-outside-spec = tie.close (tie.spec returns signed-size-requires returns-2)

@@ -9,16 +9,16 @@ use Rattle.header.proofs.fields.header_length.Tie as tie
 l-header-requires : tie.Need-l-header-requires
 l-header-requires c κs = search needs
 
-non-negative-requires : tie.Need-non-negative-requires
-non-negative-requires c κs = search needs
+signed-size-requires : tie.Need-signed-size-requires
+signed-size-requires c κs = search needs
 
 returns : tie.Need-returns
 returns c =
     let field = c .before .l-header in (
-      c .non-negative .ensures .0 ∙ ap nonNegative
+      c .signed-size .ensures .0 ∙ ap nonNegative
           (carried (field .result) _ (field .ok) (field .ensures)),
-      c .non-negative .ensures .1,
+      c .signed-size .ensures .1,
     )
 
 pub header-length-spec : {M : Type 1} → statement M
-header-length-spec = tie.close (tie.spec l-header-requires non-negative-requires returns)
+header-length-spec = tie.close (tie.spec l-header-requires signed-size-requires returns)

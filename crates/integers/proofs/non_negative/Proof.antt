@@ -1,4 +1,4 @@
--- `header::fields::non_negative` meets its contract: a number that is not below 0 is its own size.
+-- `integers::non_negative` meets its contract: a number that is not below 0 is its own size.
 -- Assumes nothing.
 use mathlib.Core.Path.{_≡_, sym}
 use native.Mathlib.Omega.{arith}
@@ -12,8 +12,8 @@ use Rattle.base.proofs.SignedLaws.{
   nonNegative-fits,
   not-below,
 }
-use Rattle.header.proofs.fields.non_negative.Statement.{statement}
-use Rattle.header.proofs.fields.non_negative.Tie as tie
+use Rattle.integers.proofs.non_negative.Statement.{statement}
+use Rattle.integers.proofs.non_negative.Tie as tie
 
 returns : tie.Need-returns
 returns c =
