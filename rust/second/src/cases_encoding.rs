@@ -33,6 +33,8 @@ pub fn encode_cases() -> Vec<Case> {
     for numbers in [[1, 31], [31, 32], [31, 33], [31, 34], [32, 33], [32, 34], [33, 34], [1, 34]] {
         calls.extend(spoiled_calls(rng, &numbers, 2));
     }
+    calls.extend(written_by_hand());
+    calls.extend(plain_calls_by_hand());
     calls.iter().map(|(label, call)| Case::encoding(label, call)).collect()
 }
 
@@ -50,19 +52,19 @@ fn spoiled_calls(rng: &mut Prng, numbers: &[u32], count: usize) -> Vec<(String, 
     calls
 }
 
+/// The reference of 01's sums.
+fn sums_reference() -> ReferencePlan {
+    let (letters, bytes) = (b"ACGTACGTTGCA".to_vec(), REFERENCE.to_vec());
+    ReferencePlan { bases: BASES, letters, bytes }
+}
+
+/// A read with its candidate.
+fn read(letters: &str, position: u32, strand: u8, left: u8, right: u8) -> Proposal {
+    Proposal { letters: letters.as_bytes().to_vec(), position, strand, left, right }
+}
+
 fn calls_by_hand(rng: &mut Prng) -> Vec<(String, EncodeCall)> {
-    let sums = ReferencePlan {
-        bases: BASES,
-        letters: b"ACGTACGTTGCA".to_vec(),
-        bytes: REFERENCE.to_vec(),
-    };
-    let read = |letters: &str, position, strand, left, right| Proposal {
-        letters: letters.as_bytes().to_vec(),
-        position,
-        strand,
-        left,
-        right,
-    };
+    let sums = sums_reference();
     let mut calls = Vec::new();
     let mut add = |label: &str, proposals: &[Proposal]| {
         calls.push((label.to_string(), EncodeCall::new(&sums, proposals, 7, 9)));
@@ -176,6 +178,76 @@ fn ends_by_hand() -> Vec<(String, EncodeCall)> {
         (format!("letters {letters:?} ends {ends:?}"), call)
     };
     edges.iter().map(call).collect()
+}
+
+/// Calls whose blocks tests/writer_by_hand.rs has byte by byte. The room past
+/// a block stays.
+fn written_by_hand() -> Vec<(String, EncodeCall)> {
+    let sums = sums_reference();
+    let mut calls = Vec::new();
+    let mut add = |label: &str, reference: &ReferencePlan, b_id, c_time, reads: &[Proposal]| {
+        let mut call = EncodeCall::new(reference, reads, b_id, c_time);
+        call.capacity = block_length(&call) + 7;
+        calls.push((label.to_string(), call));
+    };
+    // Perfect, reverse; local; raw with N; perfect up to the last base; local
+    // on the last base; a step of 0; global, back at 0.
+    let seven = [
+        read("CAAC", 6, 2, 0, 0),
+        read("GTACGA", 0, 1, 2, 1),
+        read("NC", 0, 0, 0, 0),
+        read("TGCA", 8, 1, 0, 0),
+        read("CAC", 11, 1, 1, 1),
+        read("A", 11, 1, 0, 0),
+        read("C", 0, 1, 0, 0),
+    ];
+    add("seven reads", &sums, 258, 5, &seven);
+    // 31 N: a raw record with an N list. 32 N: raw4.
+    let n_reads = [read(&"N".repeat(31), 0, 0, 0, 0), read(&"N".repeat(32), 0, 0, 0, 0)];
+    add("31 and 32 N, no place", &sums, 0, 0, &n_reads);
+    // pos_t is set for a step of 0, not for a step back.
+    add("step 0", &sums, 0, 0, &[read("C", 5, 1, 0, 0), read("C", 5, 1, 0, 0)]);
+    add("step back", &sums, 0, 0, &[read("G", 6, 1, 0, 0), read("C", 5, 1, 0, 0)]);
+    // pos_t is set for a step of 65,535, not for one of 65,536.
+    let letters = vec![b'A'; 65_538];
+    let long = ReferencePlan { bases: 65_538, letters, bytes: vec![0; 16_385] };
+    let steps = [1, 65_536, 1, 65_537].map(|position| read("A", position, 1, 0, 0));
+    add("steps 65535 and 65536", &long, 0, 0, &steps);
+    calls
+}
+
+/// Reads without a place, b_id and c_time 0: flag 0x1, the writer's refusals,
+/// each with those after it, and a block that just fits.
+fn plain_calls_by_hand() -> Vec<(String, EncodeCall)> {
+    // Label, bases, letters, ends, candidates, capacity.
+    type Plain = (&'static str, u64, &'static [u8], &'static [u32], usize, usize);
+    let calls: &[Plain] = &[
+        // Equal reads: flag 0x1, l_read, no size section. No reads: neither.
+        ("equal reads", BASES, b"ACGT", &[2, 4], 2, 140),
+        ("no reads, b_id 0", BASES, b"", &[], 0, 128),
+        // 1: 13 bases take four bytes.
+        ("13 bases in 3 bytes", 13, b"", &[], 0, 0),
+        // 31 before 32, 33 and 34; 32 before 33 and 34; 33 before 34.
+        ("no candidate, end 0, letter 9", BASES, &[9], &[0], 0, 0),
+        ("end past the letters, letter 9", BASES, &[9], &[2], 1, 0),
+        ("letter 9, no room", BASES, &[9], &[1], 1, 0),
+        // 34: the block takes 128 bytes.
+        ("block one byte too long", BASES, b"A", &[1], 1, 127),
+        ("block just fits", BASES, b"A", &[1], 1, 128),
+    ];
+    let call = |&(label, bases, letters, ends, candidates, capacity): &Plain| {
+        let mut call = EncodeCall::new(&sums_reference(), &[], 0, 0);
+        call.bases = bases;
+        call.letters = letters.to_vec();
+        call.ends = ends.to_vec();
+        call.positions = vec![0; candidates];
+        call.strands = vec![0; candidates];
+        call.lefts = vec![0; candidates];
+        call.rights = vec![0; candidates];
+        call.capacity = capacity;
+        (label.to_string(), call)
+    };
+    calls.iter().map(call).collect()
 }
 
 /// Lone differences at the edges of fillers, and 31 and 32 entries.

@@ -1,7 +1,9 @@
 //! Cases of the corpus that read: by hand, generated, with single and double
 //! faults, damaged and truncated.
 
+use crate::cases_blocks::*;
 use crate::cases_by_hand::*;
+use crate::cases_dna::{dna_by_hand, n_word_leaves};
 use crate::corpus::{stream, Case, CaseKind, MAX_ENDS, MAX_LETTERS};
 use crate::generator::*;
 use crate::mutators::{damage, spoil, spoil_all, spoil_record};
@@ -148,6 +150,7 @@ pub fn lengths_cases() -> Vec<Case> {
     inputs.extend(single_faults(rng, 2, 10, 3));
     inputs.extend(single_faults(rng, 9, 9, 12));
     inputs.extend(single_faults(rng, 11, 21, 1));
+    inputs.extend(sizes_by_hand().iter().map(|(label, hand)| Input::by_hand(label, hand)));
     // The reference plays no part.
     for input in &mut inputs {
         input.bases = 0;
@@ -175,6 +178,9 @@ pub fn decode_cases() -> Vec<Case> {
         .collect();
     cases.extend(capacity_cases(rng));
     cases.extend(full_buffer_cases(rng));
+    let by_hand = dna_by_hand().into_iter().chain([n_word_leaves()]);
+    cases.extend(by_hand.map(|input| input.case(CaseKind::Decode).lending(16, 12)));
+    cases.extend(decode_by_hand());
     cases
 }
 
@@ -232,6 +238,7 @@ pub fn validate_block_cases() -> Vec<Case> {
     inputs.extend(damaged(rng, 50));
     inputs.extend(truncated(rng, 6));
     inputs.extend(long_n_lists(rng));
+    inputs.extend(header_by_hand());
     inputs.iter().map(|input| input.case(CaseKind::ValidateBlock)).collect()
 }
 
@@ -289,6 +296,7 @@ pub fn validate_cases() -> Vec<Case> {
     let (reference, plans) = drawn_file(rng);
     let trailing = [joined(&plans), vec![0]].concat();
     cases.push(case("one byte after the last block", &reference, &trailing));
+    cases.extend(files_by_hand());
     cases
 }
 

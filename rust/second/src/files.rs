@@ -10,7 +10,6 @@ pub fn validate(reference_bases: u64, reference: &[u8], file: &[u8]) -> Outcome 
     judge(reference_bases, reference, file).unwrap_or_else(|refusal| refusal.into())
 }
 
-/// "Acceptance gives the number of blocks and each count's sum modulo 2^64."
 fn judge(reference_bases: u64, reference: &[u8], file: &[u8]) -> Result<Outcome, Refusal> {
     let reference = Reference::new(reference_bases, reference)?;
     let mut sums = Outcome::default();
@@ -18,14 +17,21 @@ fn judge(reference_bases: u64, reference: &[u8], file: &[u8]) -> Result<Outcome,
     while !rest.is_empty() {
         let block =
             read_block(&reference, rest).map_err(|refusal| refusal.in_block(sums.blocks))?;
-        let counts = block.outcome(&reference);
-        sums.blocks += 1;
-        sums.reads = sums.reads.wrapping_add(counts.reads);
-        sums.letters = sums.letters.wrapping_add(counts.letters);
-        sums.entries = sums.entries.wrapping_add(counts.entries);
-        sums.differences = sums.differences.wrapping_add(counts.differences);
+        sums = with_block(sums, block.outcome(&reference));
         // "Such a file is cut where a block ends."
         rest = &rest[block.length as usize..];
     }
     Ok(sums)
+}
+
+/// "Acceptance gives the number of blocks and each count's sum modulo 2^64."
+pub fn with_block(sums: Outcome, counts: Outcome) -> Outcome {
+    Outcome {
+        blocks: sums.blocks + 1,
+        reads: sums.reads.wrapping_add(counts.reads),
+        letters: sums.letters.wrapping_add(counts.letters),
+        entries: sums.entries.wrapping_add(counts.entries),
+        differences: sums.differences.wrapping_add(counts.differences),
+        ..sums
+    }
 }

@@ -35,6 +35,10 @@ pub mod corpus;
 
 pub mod cases_by_hand;
 
+pub mod cases_dna;
+
+pub mod cases_blocks;
+
 pub mod cases_reading;
 
 pub mod cases_encoding;

@@ -1,6 +1,9 @@
-//! Blocks written by hand, field by field, for the tests.
+//! Blocks written by hand, field by field, for the tests; and cases of the
+//! corpus by their labels.
 #![allow(dead_code)]
 
+use second::corpus::{Case, FILL};
+use second::corpus_cases::corpus;
 use second::*;
 
 /// ACGTACGTTGCA, the reference of 01's sums.
@@ -76,4 +79,52 @@ pub fn read(block: &[u8]) -> (Outcome, String) {
 pub fn told(block: &[u8]) -> (u32, u64) {
     let outcome = validate_block(BASES, &REFERENCE, block);
     (outcome.number, outcome.read)
+}
+
+/// The cases of one case file, found by their labels.
+pub struct Cases {
+    file: String,
+    cases: Vec<Case>,
+}
+
+impl Cases {
+    pub fn of(file: &str) -> Cases {
+        let found = corpus().into_iter().find(|made| made.name == file).unwrap();
+        Cases { file: file.to_string(), cases: found.cases }
+    }
+
+    /// The one case with this label.
+    pub fn labelled(&self, label: &str) -> &Case {
+        let found: Vec<&Case> = self.cases.iter().filter(|case| case.label == label).collect();
+        assert_eq!(found.len(), 1, "{} in {}", label, self.file);
+        found[0]
+    }
+}
+
+/// Runs a decode case with the buffers that it lends: the outcome, and the
+/// reads as text. What lies past them, all of it on a refusal, must stay.
+pub fn run_decode(case: &Case) -> (Outcome, Vec<String>) {
+    let mut letters = vec![FILL; case.letters_lent as usize];
+    let mut ends = vec![u32::from_le_bytes([FILL; 4]); case.ends_lent as usize];
+    let call = &case.call;
+    let outcome = decode(call.bases, &call.reference, &case.input, &mut letters, &mut ends);
+    let (written, rest) = letters.split_at(outcome.letters as usize);
+    let (read_ends, ends_rest) = ends.split_at(outcome.reads as usize);
+    assert!(rest.iter().all(|&letter| letter == FILL), "{}", case.label);
+    assert!(ends_rest.iter().all(|end| end.to_le_bytes() == [FILL; 4]), "{}", case.label);
+    let starts = [0].iter().chain(read_ends);
+    let text = |(&start, &end): (&u32, &u32)| {
+        String::from_utf8(written[start as usize..end as usize].to_vec()).unwrap()
+    };
+    (outcome, starts.zip(read_ends).map(text).collect())
+}
+
+/// A refusal: "every count in a refusal is 0".
+pub fn refusal(number: u32, block: u64, read: u64) -> Outcome {
+    Outcome { number, block, read, ..Outcome::default() }
+}
+
+/// A block of so many bytes, with its counts.
+pub fn accepted(length: u64, [reads, letters, entries, differences]: [u64; 4]) -> Outcome {
+    Outcome { length, reads, letters, entries, differences, ..Outcome::default() }
 }
