@@ -58,7 +58,8 @@ fn proved_section(lengths: &[u32]) -> Vec<u8> {
     unsafe {
         let bytes = proved::bench_sizes_length(ends.as_ptr(), ends.len());
         let mut out = vec![b'.'; bytes + 16];
-        let next = proved::bench_put_sizes(ends.as_ptr(), ends.len(), out.as_mut_ptr(), out.len(), 8);
+        let next =
+            proved::bench_put_sizes(ends.as_ptr(), ends.len(), out.as_mut_ptr(), out.len(), 8);
         assert!(next == 8 + bytes && out[..8] == [b'.'; 8] && out[next..] == [b'.'; 8]);
         out[8..next].to_vec()
     }
@@ -158,7 +159,8 @@ fn compare_small(random: &mut Random) {
         assert!(section == plain_section(&lengths), "{lengths:?}: sections differ");
         let raw = lengths.iter().sum();
         let same = |bytes: &[u8]| {
-            let numbers = [proved_walk, plain_walk].map(|walk: Walk| walk(bytes, reads as u32, raw));
+            let numbers =
+                [proved_walk, plain_walk].map(|walk: Walk| walk(bytes, reads as u32, raw));
             assert!(numbers[0] == numbers[1], "{reads} reads, {bytes:?}: numbers differ");
         };
         for at in 0..section.len() {
@@ -188,7 +190,10 @@ fn compare(title: &str, lengths: &[u32]) -> Section {
         assert!(walk(&bytes, reads, raw) == 0, "{title}: not accepted");
         assert!(walk(&bytes, reads, raw - 1) == 10, "{title}: a sum too small is not refused");
         assert!(walk(&bytes, reads, raw + 1) == 10, "{title}: a sum too large is not refused");
-        assert!(walk(&bytes, reads + 8, raw) == 9, "{title}: reads past the section are not refused");
+        assert!(
+            walk(&bytes, reads + 8, raw) == 9,
+            "{title}: reads past the section are not refused"
+        );
     }
     Section { bytes, reads, raw }
 }

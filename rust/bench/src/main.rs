@@ -33,7 +33,13 @@ impl Random {
 }
 
 impl Work {
-    fn new(title: &'static str, bytes: usize, bases: usize, count: usize, random: &mut Random) -> Work {
+    fn new(
+        title: &'static str,
+        bytes: usize,
+        bases: usize,
+        count: usize,
+        random: &mut Random,
+    ) -> Work {
         let reference: Vec<u8> = (0..bytes).map(|_| random.next() as u8).collect();
         let stretches = (0..count).map(|_| (random.below(4 * bytes - bases + 1), bases)).collect();
         Work { title, reference, stretches }
@@ -78,7 +84,11 @@ fn compare_small(strand: &Strand, random: &mut Random) {
             for writer in others {
                 let mut out = vec![b'.'; bases + 16];
                 writer(&reference, leftmost, &strand.table, &mut out[8..8 + bases]);
-                assert!(out == expected, "{}: {bases} bases from {leftmost}: letters differ", strand.title);
+                assert!(
+                    out == expected,
+                    "{}: {bases} bases from {leftmost}: letters differ",
+                    strand.title
+                );
             }
         }
     }
@@ -156,8 +166,13 @@ fn main() {
     for strand in &strands {
         compare_small(strand, random);
         let times: Vec<[f64; 4]> = works.iter().map(|work| measure(work, strand)).collect();
-        for (way, title) in ["plain loop", "proved", "best unsafe Rust", "memory copy"].iter().enumerate() {
-            row(&format!("{}, {title}", strand.title), times.iter().map(|time| time[0] / time[way]));
+        for (way, title) in
+            ["plain loop", "proved", "best unsafe Rust", "memory copy"].iter().enumerate()
+        {
+            row(
+                &format!("{}, {title}", strand.title),
+                times.iter().map(|time| time[0] / time[way]),
+            );
         }
         row(
             &format!("{}, proved to best unsafe", strand.title),
