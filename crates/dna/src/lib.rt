@@ -1,5 +1,8 @@
-// The types that the decoder, the encoder and every walk over records share (01, Records). Their meaning is
-// given in specs/, which name none of them below the answers of the calls.
+// The types that the decoder, the encoder and every walk over records share (01, Records), and the
+// numbers of refusal. Their meaning is given in specs/, which name none of them below the answers of
+// the calls.
+
+pub mod refusals;
 
 // The strand that a read was aligned to.
 pub enum Strand {
@@ -7,8 +10,9 @@ pub enum Strand {
     Reverse,
 }
 
-// Where an aligned read lies on the reference (01: a place): the position as 01 defines it, exact and never
-// wrapped; the strand; and the letters clipped at each end, 0 where the whole read is aligned.
+// Where an aligned read lies on the reference (01: a place): the position as 01 defines it, exact
+// and never wrapped; the strand; and the letters clipped at each end, 0 where the whole read is
+// aligned.
 pub struct Placement {
     pub position: u64,
     pub strand: Strand,
@@ -16,7 +20,8 @@ pub struct Placement {
     pub right: u8,
 }
 
-// One record of the DNA section (01: each record is one of five kinds, and a placed one carries its own place).
+// One record of the DNA section (01: each record is one of five kinds, and a placed one carries its
+// own place).
 pub enum Record {
     Perfect(Placement),
     Global(Placement),

@@ -8,6 +8,13 @@ use crate::fields::n_reads;
 use crate::fields::signed_size;
 use crate::fields::version;
 use crate::sections::block_length;
+use dna::refusals::FLAG_UNSUPPORTED;
+use dna::refusals::HEADER_LENGTH_TOO_SMALL;
+use dna::refusals::HEADER_TRUNCATED;
+use dna::refusals::MAGIC_WRONG;
+use dna::refusals::READ_COUNT_OUT_OF_RANGE;
+use dna::refusals::SECTIONS_TRUNCATED;
+use dna::refusals::VERSION_UNSUPPORTED;
 ghost use mathlib.Core.Path.{_≡_};
 ghost use Prim.Native.Nat.{_≤_, _<_};
 ghost use lib.ListN.{length};
@@ -27,27 +34,6 @@ ghost use Rattle.format.specs.HeaderFaults.{
 };
 ghost use Rattle.header.specs.TableFaults.{tableFaults};
 
-// Fewer than 121 bytes.
-pub const HEADER_TRUNCATED: u8 = 2;
-
-// The magic is not the bytes 49 7C.
-pub const MAGIC_WRONG: u8 = 3;
-
-// Version not 20505 to 29999.
-pub const VERSION_UNSUPPORTED: u8 = 4;
-
-// l_header below 121.
-pub const HEADER_LENGTH_TOO_SMALL: u8 = 5;
-
-// Flag 0x40 or 0x80 set.
-pub const FLAG_UNSUPPORTED: u8 = 6;
-
-// n_reads outside 0 to 50,000.
-pub const READ_COUNT_OUT_OF_RANGE: u8 = 7;
-
-// Header and sections longer than the input.
-pub const SECTIONS_TRUNCATED: u8 = 8;
-
 pub const MAGIC: u16 = 0x7c49;
 
 pub const MIN_VERSION: u16 = 20505;
@@ -66,7 +52,7 @@ pub const FALLBACK_FLAG: u32 = 0x40;
 pub const ENCRYPTED_FLAG: u32 = 0x80;
 
 // The first of 2 to 8 that the header earns, or 0.
-pub fn header_fault(input: &[u8]) -> u8
+pub fn header_fault(input: &[u8]) -> u32
     ensures { λ r. ⌜ r ≡ firstNumber (headerFaults (now (input .entry))) ⌝ }
 {
     if header_truncated(input) {
@@ -77,7 +63,7 @@ pub fn header_fault(input: &[u8]) -> u8
 
 // The first of 3 to 8 that a table of contents earns, or 0; `unsupported` says whether its flags
 // earn 6.
-pub fn table_fault(input: &[u8], unsupported: bool) -> u8
+pub fn table_fault(input: &[u8], unsupported: bool) -> u32
     requires { ⌜ tableLength ≤ length (now input) ⌝ }
     ensures { λ r. ⌜ r ≡ firstNumber (tableFaults (now (input .entry)) unsupported) ⌝ }
 {

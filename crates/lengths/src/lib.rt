@@ -1,6 +1,8 @@
 // The lengths of a block's reads (refusals 9 and 10): a cursor that gives them read by read, and the
 // walk that validates them all; write.rt writes a size section. The contracts cite specs/Cursor.antt
 // and specs/Given.antt; none has a `requires`.
+use dna::refusals::DNA_SIZE_WRONG;
+use dna::refusals::LENGTHS_INVALID;
 ghost use mathlib.Core.Path.{_≡_};
 ghost use mathlib.Core.Bool.{cond};
 ghost use Prim.Native.Nat.{_+_, _≤_};
@@ -33,11 +35,6 @@ const MAX_READ_LENGTH: u32 = 100_000;
 
 // The word that says that another follows.
 pub const WORD_ESCAPE: u32 = 32768;
-
-// Refusals.
-pub const LENGTHS_INVALID: u32 = 9;
-
-pub const DNA_SIZE_WRONG: u32 = 10;
 
 // Where a walk over the lengths stands.
 pub struct SizeCursor {
