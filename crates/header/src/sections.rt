@@ -8,7 +8,6 @@ use integers::u32_at;
 ghost use mathlib.Core.Path.{_≡_};
 ghost use Prim.Native.Nat.{_*_, _≤_, _<_, _^_};
 ghost use lib.ListN.{length, take};
-ghost use mathlib.Core.List.{[]};
 ghost use Rattle.base.specs.Lists.{total};
 ghost use Rattle.format.specs.Header.{tableLength, headerOf};
 ghost use Rattle.format.specs.Sections.{
@@ -18,10 +17,19 @@ ghost use Rattle.format.specs.Sections.{
   blockLength,
 };
 ghost use Rattle.format.specs.BlockAnswer.{sectionAnswer, spanAnswer};
-ghost use Rattle.header.specs.Part.{BeginsAt};
+ghost use Rattle.header.specs.Part.{BeginsAt, spanOf};
 
 // How many sections a block has.
 pub const SECTIONS: usize = 9;
+
+// Where a section stands in the block, in bytes.
+pub struct Span {
+    pub offset: usize,
+    pub size: usize,
+}
+
+// The span of a section that is empty.
+const EMPTY_SPAN: Span = Span { offset: 0, size: 0 };
 
 // The section that is asked for, the very part of the block; empty if the number is above 8 or the
 // header earns 2 to 8.
@@ -29,23 +37,28 @@ pub fn section(input: &[u8], number: u64) -> &[u8]
     ensures { λ r. ⌜ (now r ≡ sectionAnswer (now (input .entry)) number)
         × BeginsAt (input .entry) r (spanAnswer (now (input .entry)) number .offset) ⌝ }
 {
+    let span = section_span(input, number);
+    let start = span.offset;
+    let size = span.size;
+    &input[start..start + size]
+}
+
+// Where that section stands; both 0 where it is empty.
+pub fn section_span(input: &[u8], number: u64) -> Span
+    ensures { λ r. ⌜ spanOf r ≡ spanAnswer (now (input .entry)) number ⌝ }
+{
     if header_fault(input) != 0 {
-        return empty_part(input);
+        return EMPTY_SPAN;
     }
     let index = size64(number);
     let size = section_length(input, index);
     if size == 0 {
-        return empty_part(input);
+        return EMPTY_SPAN;
     }
-    let start = section_start(input, index);
-    &input[start..start + size]
-}
-
-// The empty part at the start.
-fn empty_part(input: &[u8]) -> &[u8]
-    ensures { λ r. ⌜ (now r ≡ []) × BeginsAt (input .entry) r 0 ⌝ }
-{
-    &input[..0]
+    Span {
+        offset: section_start(input, index),
+        size: size,
+    }
 }
 
 // Where section `number` starts; above 8, where the block ends.
@@ -81,7 +94,8 @@ pub fn block_length(input: &[u8]) -> usize
 // How many bytes the sections before section `number` have.
 fn lengths_before(input: &[u8], number: usize) -> usize
     requires { ⌜ (tableLength ≤ length (now input)) × (number ≤ 9) ⌝ }
-    ensures { λ r. ⌜ (r ≡ total (take number (sectionLengths (headerOf (now (input .entry)))))) × (r ≤ 9 * 2 ^ 32) ⌝ }
+    ensures { λ r. ⌜ (r ≡ total (take number (sectionLengths (headerOf (now (input .entry))))))
+        × (r ≤ 9 * 2 ^ 32) ⌝ }
 {
     let mut sum: usize = 0;
     let mut k: usize = 0;

@@ -5,7 +5,6 @@
 use header::faults::header_fault;
 use header::fields;
 use header::sections;
-use integers::size64;
 ghost use mathlib.Core.Path.{_≡_};
 ghost use Rattle.format.specs.BlockAnswer.{sectionAnswer, spanAnswer, idAnswer};
 ghost use Rattle.header.specs.Part.{BeginsAt};
@@ -17,8 +16,8 @@ pub struct Span {
     pub size: u64,
 }
 
-// The section that is asked for; empty if the number is above 8 or the header earns one of 2 to 8. It
-// is the very part of the block that section_span says, no copy (specs/Part.antt of header).
+// The section that is asked for; empty if the number is above 8 or the header earns one of 2 to 8.
+// It is the very part of the block that section_span says, no copy (specs/Part.antt of header).
 pub fn section(input: &[u8], number: u64) -> &[u8]
     ensures { λ r. ⌜ (now r ≡ sectionAnswer (now (input .entry)) number)
         × BeginsAt (input .entry) r (spanAnswer (now (input .entry)) number .offset) ⌝ }
@@ -30,17 +29,10 @@ pub fn section(input: &[u8], number: u64) -> &[u8]
 pub fn section_span(input: &[u8], number: u64) -> Span
     ensures { λ r. ⌜ spanOf r ≡ spanAnswer (now (input .entry)) number ⌝ }
 {
-    if header_fault(input) != 0 {
-        return Span { offset: 0, size: 0 };
-    }
-    let index = size64(number);
-    let size = sections::section_length(input, index);
-    if size == 0 {
-        return Span { offset: 0, size: 0 };
-    }
+    let span = sections::section_span(input, number);
     Span {
-        offset: sections::section_start(input, index) as u64,
-        size: size as u64,
+        offset: span.offset as u64,
+        size: span.size as u64,
     }
 }
 

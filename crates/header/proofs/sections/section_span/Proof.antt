@@ -1,5 +1,5 @@
--- `ora::section_span` meets its contract: at each `return` the tests that led there say which case
--- of the answer holds. Assumes nothing.
+-- `header::sections::section_span` meets its contract: at each `return` the tests that led there
+-- say which case of the answer holds. Assumes nothing.
 use borrow.Author.Needs.{needs}
 use Rattle.format.proofs.SectionLaws.{
   accepted-number,
@@ -7,18 +7,19 @@ use Rattle.format.proofs.SectionLaws.{
   accepted-table,
   span-found,
   span-empty,
+  span-refused,
 }
-use Rattle.format.specs.BlockAnswer.{spanAnswer}
-use Rattle.ora.proofs.section_span.Statement.{statement}
-use Rattle.ora.proofs.section_span.Tie as tie
+use Rattle.header.proofs.sections.section_span.Statement.{statement}
+use Rattle.header.proofs.sections.section_span.Tie as tie
 
 header-fault-requires : tie.Need-header-fault-requires
 header-fault-requires c κs = search needs
 
 returns : tie.Need-returns
-unfolding spanAnswer
 returns c =
-    simp (refused-number _ _ (c .before .header-fault .ensures) (c .if1 .taken))
+    let a = c .before .before .before .args in
+    span-refused (a .input .now) (a .number)
+    (refused-number _ _ (c .before .header-fault .ensures) (c .if1 .taken))
 
 size64-requires : tie.Need-size64-requires
 size64-requires c κs = search needs
