@@ -5,22 +5,18 @@ use crate::lines::put_column;
 use crate::lines::start_line;
 use cases::hash::HASH_START;
 use cases::hash::hash_number;
-use header::faults::SAME_LENGTH_FLAG;
-use header::faults::flag_set;
 use header::faults::header_fault;
-use header::fields::flags;
 use header::fields::l_read;
 use header::fields::n_reads;
-use header::fields::raw_dna_size;
+use header::fields::same_length;
+use header::sections::SIZE_SECTION;
 use integers::wide64;
 use lengths::LengthStep;
 use lengths::SizeCursor;
-ghost use Prim.Native.Nat.{_≤_};
-ghost use lib.ListN.{length};
-ghost use Rattle.format.specs.Header.{tableLength};
-
-// The number of the size section.
-const SIZE_SECTION: u64 = 4;
+use lengths::blocks::lengths_fault;
+ghost use mathlib.Core.Path.{_≡_};
+ghost use mathlib.Core.Bool.{false};
+ghost use Rattle.format.specs.BlockAnswer.{headerRefused};
 
 // What the lengths amount to.
 struct Summary {
@@ -36,48 +32,44 @@ pub fn run_lengths(index: u32, input: &[u8]) {
     if number == 0 {
         put_lengths(input);
     } else {
-        put_outcome(
-            number as u64,
-            0,
-            Summary {
-                sum: 0,
-                hash: HASH_START,
-            },
-        );
+        put_refusal(number);
     }
     end_line();
 }
 
 // The columns of a block whose header earns no number.
 fn put_lengths(input: &[u8])
-    requires { ⌜ tableLength ≤ length (now input) ⌝ }
+    requires { ⌜ headerRefused (now input) ≡ false ⌝ }
 {
-    let section = ora::section(input, SIZE_SECTION);
-    let fixed = flag_set(flags(input), SAME_LENGTH_FLAG);
-    let each = l_read(input);
-    let reads = integers::non_negative(n_reads(input));
-    let number = lengths::lengths_fault(section, fixed, each, reads, raw_dna_size(input));
+    let number = lengths_fault(input);
     if number != 0 {
-        put_outcome(
-            wide64(number),
-            0,
-            Summary {
-                sum: 0,
-                hash: HASH_START,
-            },
-        );
+        put_refusal(number);
         return;
     }
-    let first = lengths::first_cursor(fixed, each);
-    put_outcome(0, wide64(reads), summarize(section, first, reads));
+    let first = lengths::first_cursor(same_length(input), l_read(input));
+    let reads = integers::non_negative(n_reads(input));
+    let summary = summarize(ora::section(input, SIZE_SECTION), first, reads);
+    put_outcome(0, reads, summary);
+}
+
+// The columns of a refused case.
+fn put_refusal(number: u32) {
+    put_outcome(
+        number,
+        0,
+        Summary {
+            sum: 0,
+            hash: HASH_START,
+        },
+    );
 }
 
 // The number, block 0 and read 0, the count, the sum and the hash.
-fn put_outcome(number: u64, count: u64, summary: Summary) {
-    put_column(number);
+fn put_outcome(number: u32, count: u32, summary: Summary) {
+    put_column(wide64(number));
     put_column(0);
     put_column(0);
-    put_column(count);
+    put_column(wide64(count));
     put_column(summary.sum);
     put_column(summary.hash);
 }

@@ -1,5 +1,7 @@
 // The fields of a table of contents, each at its offset. Every `requires` says that the table is
 // there.
+use crate::faults::SAME_LENGTH_FLAG;
+use crate::faults::flag_set;
 use integers::i32_at;
 use integers::non_negative;
 use integers::size32;
@@ -10,7 +12,13 @@ ghost use mathlib.Core.Path.{_≡_};
 ghost use Prim.Native.Nat.{_≤_, _<_, _^_};
 ghost use lib.ListN.{length};
 ghost use Rattle.base.specs.Numbers.{nonNegative};
-ghost use Rattle.format.specs.Header.{tableLength, headerOf, readCount};
+ghost use Rattle.format.specs.Header.{
+  tableLength,
+  headerOf,
+  flagSet,
+  sameLengthFlag,
+  readCount,
+};
 
 // The length of the table of contents.
 pub const TABLE_LENGTH: usize = 121;
@@ -92,4 +100,12 @@ pub fn read_count(input: &[u8]) -> usize
     ensures { λ r. ⌜ (r ≡ readCount (headerOf (now (input .entry)))) × (r < 2 ^ 31) ⌝ }
 {
     signed_size(n_reads(input))
+}
+
+// Whether all reads have one length, l_read.
+pub fn same_length(input: &[u8]) -> bool
+    requires { ⌜ tableLength ≤ length (now input) ⌝ }
+    ensures { λ r. ⌜ r ≡ flagSet (headerOf (now (input .entry)) .flags) sameLengthFlag ⌝ }
+{
+    flag_set(flags(input), SAME_LENGTH_FLAG)
 }

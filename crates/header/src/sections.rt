@@ -22,6 +22,13 @@ ghost use Rattle.header.specs.Part.{BeginsAt, spanOf};
 // How many sections a block has.
 pub const SECTIONS: usize = 9;
 
+// The numbers of those that are read; the others are carried unread.
+pub const DNA_SECTION: u64 = 0;
+
+pub const SIZE_SECTION: u64 = 4;
+
+pub const N_SECTION: u64 = 5;
+
 // Where a section stands in the block, in bytes.
 pub struct Span {
     pub offset: usize,

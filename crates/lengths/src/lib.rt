@@ -27,6 +27,9 @@ ghost use Rattle.lengths.specs.Cursor.{
   cursorEnded,
 };
 
+// The lengths of a block.
+pub mod blocks;
+
 // Writing a size section.
 pub mod write;
 

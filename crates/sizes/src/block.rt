@@ -2,19 +2,10 @@
 // section; and the number that a block earns.
 use crate::parts::first_bytes;
 use crate::section::write_sizes;
-use header::faults::SAME_LENGTH_FLAG;
-use header::faults::flag_set;
 use header::faults::header_fault;
-use header::fields::flags;
-use header::fields::l_read;
-use header::fields::n_reads;
-use header::fields::raw_dna_size;
 use header::writing::VaryingFields;
 use header::writing::put_header;
-use integers::wide64;
-ghost use Prim.Native.Nat.{_≤_};
-ghost use lib.ListN.{length};
-ghost use Rattle.format.specs.Header.{tableLength};
+use lengths::blocks::lengths_fault;
 
 // The block's bytes outside its size section: the header, the DNA section and the N section.
 const OTHER_BYTES: usize = 208;
@@ -29,9 +20,6 @@ pub const BLOCK_CAPACITY: usize = 272;
 const DNA_START: usize = 121;
 
 const SIZES_START: usize = 207;
-
-// The number of the size section.
-const SIZE_SECTION: u64 = 4;
 
 // The flag that the encoder always sets.
 pub const ENCODER_FLAG: u32 = 0x4;
@@ -91,20 +79,10 @@ fn put_bytes_at(bytes: &[u8], out: &mut [u8], at: usize) {
 }
 
 // The first of 2 to 10 that a block earns, or 0.
-pub fn block_fault(input: &[u8]) -> u64 {
+pub fn block_fault(input: &[u8]) -> u32 {
     let number = header_fault(input);
     if number == 0 {
-        return wide64(lengths_fault(input));
+        return lengths_fault(input);
     }
-    number as u64
-}
-
-// 9 or 10, or 0, of a block whose header earns no number.
-fn lengths_fault(input: &[u8]) -> u32
-    requires { ⌜ tableLength ≤ length (now input) ⌝ }
-{
-    let section = ora::section(input, SIZE_SECTION);
-    let fixed = flag_set(flags(input), SAME_LENGTH_FLAG);
-    let reads = integers::non_negative(n_reads(input));
-    lengths::lengths_fault(section, fixed, l_read(input), reads, raw_dna_size(input))
+    number
 }

@@ -7,7 +7,6 @@ use crate::block::write_block;
 use crate::block::write_block_with;
 use crate::lines::end_line;
 use crate::lines::put_number;
-use crate::lines::put_word;
 use crate::lines::start_line;
 use crate::parts::first_bytes;
 use header::faults::ENCRYPTED_FLAG;
@@ -15,10 +14,7 @@ use header::faults::FALLBACK_FLAG;
 use header::faults::SAME_LENGTH_FLAG;
 use integers::put_u16;
 use integers::put_u32;
-
-// The read index of every refusal here: it is the record's, or the group's first read for group
-// bytes, else 0; and none of 2 to 10 is about a record or a group's four bytes.
-const READ_INDEX: u64 = 0;
+use integers::wide64;
 
 // Offsets of header fields.
 const MAGIC_AT: usize = 0;
@@ -184,12 +180,10 @@ fn run_same(label: &[u8], each: u32, sizes: &[u8]) {
     put_case(label, first_bytes(&block, size));
 }
 
-// The line of a case: its label, the number and the read index.
+// The line of a case: its label and the number.
 fn put_case(label: &[u8], input: &[u8]) {
     start_line(label);
     start_line(b": number");
-    put_number(block_fault(input));
-    put_word(b"read");
-    put_number(READ_INDEX);
+    put_number(wide64(block_fault(input)));
     end_line();
 }

@@ -1,6 +1,6 @@
--- `corpus::read_lengths::run_lengths` is safe: a header that earns no number has its table.
--- Assumes nothing.
-use Rattle.format.proofs.SectionLaws.{accepted-number, accepted-table}
+-- `corpus::read_lengths::run_lengths` is safe: the lengths are asked for where the header earns no
+-- number. Assumes nothing.
+use Rattle.format.proofs.SectionLaws.{accepted-number}
 use borrow.Author.Needs.{needs}
 use Rattle.corpus.proofs.read_lengths.run_lengths.Statement.{statement}
 use Rattle.corpus.proofs.read_lengths.run_lengths.Tie as tie
@@ -15,14 +15,10 @@ header-fault-requires : tie.Need-header-fault-requires
 header-fault-requires c κs = search needs
 
 put-lengths-requires : tie.Need-put-lengths-requires
-put-lengths-requires c κs =
-    accepted-table _ (accepted-number _ _ (c .before .header-fault .ensures) (c .if1 .taken))
+put-lengths-requires c κs = accepted-number _ _ (c .before .header-fault .ensures) (c .if1 .taken)
 
-cast-put-outcome : tie.Need-cast-put-outcome
-cast-put-outcome c = search needs
-
-put-outcome-requires : tie.Need-put-outcome-requires
-put-outcome-requires c κs = search needs
+put-refusal-requires : tie.Need-put-refusal-requires
+put-refusal-requires c κs = search needs
 
 end-line-requires : tie.Need-end-line-requires
 end-line-requires c κs = search needs
@@ -38,7 +34,6 @@ run-lengths-spec =
     start-line-requires
     header-fault-requires
     put-lengths-requires
-    cast-put-outcome
-    put-outcome-requires
+    put-refusal-requires
     end-line-requires
     returns)
