@@ -1,10 +1,10 @@
--- `sizes::lines::put_numbers` is safe and ends. The measure is how many numbers are left. Assumes
+-- `lengths_test::lines::put_numbers` is safe and ends. The measure is how many numbers are left. Assumes
 -- nothing.
 use Prim.Native.Nat.{_-_, _≤_}
 use lib.ListN.{length}
 use borrow.Author.Needs.{needs}
-use Rattle.sizes.proofs.lines.put_numbers.Statement.{statement}
-use Rattle.sizes.proofs.lines.put_numbers.Tie as tie
+use Rattle.lengths_test.proofs.lines.put_numbers.Statement.{statement}
+use Rattle.lengths_test.proofs.lines.put_numbers.Tie as tie
 
 abbrev Inv-loop : tie.InvT-loop
 Inv-loop numbers i₀ i = i ≤ length numbers

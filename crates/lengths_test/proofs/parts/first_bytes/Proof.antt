@@ -1,10 +1,10 @@
--- `sizes::parts::first_bytes` is safe: the part ends in the slice. Assumes nothing.
+-- `lengths_test::parts::first_bytes` is safe: the part ends in the slice. Assumes nothing.
 use mathlib.Core.Path.{sym}
 use native.Mathlib.Omega.{arith}
 use lib.Seq.{length-take-le}
 use borrow.Author.Needs.{needs}
-use Rattle.sizes.proofs.parts.first_bytes.Statement.{statement}
-use Rattle.sizes.proofs.parts.first_bytes.Tie as tie
+use Rattle.lengths_test.proofs.parts.first_bytes.Statement.{statement}
+use Rattle.lengths_test.proofs.parts.first_bytes.Tie as tie
 
 returns : tie.Need-returns
 returns c = search needs

@@ -1,15 +1,15 @@
--- `sizes::lists::put_walk` is safe and ends. The measure is how many reads are left. Assumes
--- nothing.
-use Prim.Native.Nat.{_-_}
+-- `lengths_test::many::walk` is safe and ends: each length is below 2 ^ 32, so the sum fits. The measure
+-- is how many reads are left. Assumes nothing.
+use Prim.Native.Nat.{_-_, _*_, _≤_}
 use borrow.Author.Needs.{needs}
-use Rattle.sizes.proofs.lists.put_walk.Statement.{statement}
-use Rattle.sizes.proofs.lists.put_walk.Tie as tie
+use Rattle.lengths_test.proofs.many.walk.Statement.{statement}
+use Rattle.lengths_test.proofs.many.walk.Tie as tie
 
 abbrev Inv-loop : tie.InvT-loop
-Inv-loop section reads cursor₀ i₀ cursor i = Unit {0}
+Inv-loop section reads cursor₀ sum₀ i₀ cursor sum i = (i ≤ reads) × (sum ≤ 4294967295 * i)
 
 abbrev μ-loop : tie.MeasureT-loop
-μ-loop section reads cursor₀ i₀ cursor i = reads - i
+μ-loop section reads cursor₀ sum₀ i₀ cursor sum i = reads - i
 
 first-cursor-requires : tie.Need-first-cursor-requires Inv-loop μ-loop
 first-cursor-requires c κs = search needs
@@ -32,8 +32,8 @@ returns c = search needs
 wide64-requires : tie.Need-wide64-requires Inv-loop μ-loop
 wide64-requires c κs = search needs
 
-put-number-requires : tie.Need-put-number-requires Inv-loop μ-loop
-put-number-requires c κs = search needs
+add-sum : tie.Need-add-sum Inv-loop μ-loop
+add-sum c = search needs
 
 add-i : tie.Need-add-i Inv-loop μ-loop
 add-i c = search needs
@@ -50,8 +50,8 @@ cursor-ended-requires c κs = search needs
 returns-2 : tie.Need-returns-2 Inv-loop μ-loop
 returns-2 c = search needs
 
-pub put-walk-spec : {M : Type 1} → statement M
-put-walk-spec =
+pub walk-spec : {M : Type 1} → statement M
+walk-spec =
     tie.close
     (tie.spec
     Inv-loop
@@ -63,7 +63,7 @@ put-walk-spec =
     enum-told
     returns
     wide64-requires
-    put-number-requires
+    add-sum
     add-i
     loop-less
     loop-again

@@ -1,11 +1,11 @@
--- `sizes::block::put_bytes_at` is safe and ends. The buffer keeps its length; the measure is how
+-- `lengths_test::block::put_bytes_at` is safe and ends. The buffer keeps its length; the measure is how
 -- many bytes are left. Assumes nothing.
 use mathlib.Core.Path.{_≡_}
 use Prim.Native.Nat.{_-_, _≤_}
 use lib.ListN.{length}
 use borrow.Author.Needs.{needs}
-use Rattle.sizes.proofs.block.put_bytes_at.Statement.{statement}
-use Rattle.sizes.proofs.block.put_bytes_at.Tie as tie
+use Rattle.lengths_test.proofs.block.put_bytes_at.Statement.{statement}
+use Rattle.lengths_test.proofs.block.put_bytes_at.Tie as tie
 
 abbrev Inv-loop : tie.InvT-loop
 Inv-loop bytes out₀ at i₀ out i = (at ≤ length out) × (length out ≡ length out₀)

@@ -1,11 +1,11 @@
--- `sizes::many::put_lengths` is safe and ends. The slice keeps its length; the measure is how many
+-- `lengths_test::many::put_lengths` is safe and ends. The slice keeps its length; the measure is how many
 -- reads are left. Assumes nothing.
 use mathlib.Core.Path.{_≡_}
 use Prim.Native.Nat.{_-_}
 use lib.ListN.{length}
 use borrow.Author.Needs.{needs}
-use Rattle.sizes.proofs.many.put_lengths.Statement.{statement}
-use Rattle.sizes.proofs.many.put_lengths.Tie as tie
+use Rattle.lengths_test.proofs.many.put_lengths.Statement.{statement}
+use Rattle.lengths_test.proofs.many.put_lengths.Tie as tie
 
 abbrev Inv-loop : tie.InvT-loop
 Inv-loop sizes₀ i₀ sizes i = length sizes ≡ length sizes₀

@@ -1,9 +1,9 @@
--- `sizes::block::block_fault` is safe: the lengths are asked for where the header earns no number.
+-- `lengths_test::block::block_fault` is safe: the lengths are asked for where the header earns no number.
 -- Assumes nothing.
 use Rattle.format.proofs.SectionLaws.{accepted-number}
 use borrow.Author.Needs.{needs}
-use Rattle.sizes.proofs.block.block_fault.Statement.{statement}
-use Rattle.sizes.proofs.block.block_fault.Tie as tie
+use Rattle.lengths_test.proofs.block.block_fault.Statement.{statement}
+use Rattle.lengths_test.proofs.block.block_fault.Tie as tie
 
 header-fault-requires : tie.Need-header-fault-requires
 header-fault-requires c κs = search needs

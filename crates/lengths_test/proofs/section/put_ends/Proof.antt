@@ -1,11 +1,11 @@
--- `sizes::section::put_ends` is safe and ends. The slice keeps its length; the measure is how many
+-- `lengths_test::section::put_ends` is safe and ends. The slice keeps its length; the measure is how many
 -- reads are left. Assumes nothing.
 use mathlib.Core.Path.{_≡_}
 use Prim.Native.Nat.{_-_, _≤_}
 use lib.ListN.{length}
 use borrow.Author.Needs.{needs}
-use Rattle.sizes.proofs.section.put_ends.Statement.{statement}
-use Rattle.sizes.proofs.section.put_ends.Tie as tie
+use Rattle.lengths_test.proofs.section.put_ends.Statement.{statement}
+use Rattle.lengths_test.proofs.section.put_ends.Tie as tie
 
 abbrev Inv-loop : tie.InvT-loop
 Inv-loop sizes ends₀ end₀ i₀ ends end i = (length ends ≡ length ends₀) × (end ≤ 4294967295)
