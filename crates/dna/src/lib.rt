@@ -1,6 +1,6 @@
 // The types that the decoder, the encoder and every walk over records share (01, Records), and the
-// numbers of refusal. Their meaning is given in specs/, which name none of them below the answers of
-// the calls.
+// numbers of refusal. Their meaning is given in specs/, which name none of them below the answers
+// of the calls.
 
 pub mod refusals;
 

@@ -3,7 +3,7 @@
 use mathlib.Core.Path.{_≡_, refl}
 use Prim.Native.Nat.{ℕ}
 use mathlib.Core.Bool.{cond}
-use mathlib.Core.List.{List, _++_, flatten}
+use mathlib.Core.List.{List, [], _∷_, flatten}
 use lib.IntN.{pos}
 use lib.ListN.{length, getD}
 use Rattle.base.specs.Lists.{build, total}
@@ -18,25 +18,40 @@ use Rattle.header.specs.WrittenHeader.{
   rawBytes,
 }
 
--- The parts one after the other are the bytes of the table.
+-- The parts in which a table is written.
+abbrev pub tableParts : (fields : VaryingFields) → List (List ℕ)
+tableParts fields =
+    lengthBytes (fields .«l_dna») (fields .«l_size») (fields .«l_n»)
+    ∷ countBytes (fields .flags) (fields .«l_read») (fields .«n_reads») (fields .«b_id»)
+    ∷ rawBytes (fields .«l_dna_raw») (fields .«c_time»)
+    ∷ []
+
+-- One after the other they are its bytes.
 pub written-parts : (fields : VaryingFields)
-    → lengthBytes (fields .«l_dna») (fields .«l_size») (fields .«l_n»)
-    ++ countBytes (fields .flags) (fields .«l_read») (fields .«n_reads») (fields .«b_id»)
-    ++ rawBytes (fields .«l_dna_raw») (fields .«c_time»)
-    ≡ headerBytes (headerWith fields)
-unfolding leBytes build zeros lengthBytes countBytes rawBytes int32Bytes headerBytes headerWith flatten
+    → flatten (tableParts fields) ≡ headerBytes (headerWith fields)
+unfolding flatten leBytes build zeros lengthBytes countBytes rawBytes
+    int32Bytes headerBytes headerWith
 written-parts fields = refl
 
+pub length-tableParts : (fields : VaryingFields) → length (flatten (tableParts fields)) ≡ 121
+unfolding leBytes build zeros lengthBytes countBytes rawBytes flatten
+length-tableParts fields = refl
+
 pub length-lengthBytes : (dna sizes ns : ℕ) → length (lengthBytes dna sizes ns) ≡ 42
-unfolding leBytes build zeros lengthBytes
+unfolding leBytes build zeros lengthBytes flatten
 length-lengthBytes dna sizes ns = refl
 
 pub length-countBytes : (flags size count id : ℕ) → length (countBytes flags size count id) ≡ 22
-unfolding leBytes countBytes
+unfolding leBytes countBytes flatten
 length-countBytes flags size count id = refl
 
+pub length-rawBytes : (dna time : ℕ) → length (rawBytes dna time) ≡ 57
+unfolding leBytes build zeros rawBytes flatten
+length-rawBytes dna time = refl
+
 -- The fields are those that the fixed rule gives a block.
-pub record Ruled (fields : VaryingFields) (id time dnaSize : ℕ) (sizes nSection lengths : List ℕ) : Type 0 where
+pub record Ruled (fields : VaryingFields) (id time dnaSize : ℕ)
+    (sizes nSection lengths : List ℕ) : Type 0 where
   pub dnaSame : fields .«l_dna» ≡ dnaSize
   pub sizesSame : fields .«l_size» ≡ length sizes
   pub nsSame : fields .«l_n» ≡ length nSection
@@ -48,7 +63,8 @@ pub record Ruled (fields : VaryingFields) (id time dnaSize : ℕ) (sizes nSectio
   pub timeSame : fields .«c_time» ≡ time
 
 -- With such fields the header is the rule's.
-pub headerWith-ruled : (fields : VaryingFields) (id time dnaSize : ℕ) (sizes nSection lengths : List ℕ)
+pub headerWith-ruled : (fields : VaryingFields) (id time dnaSize : ℕ)
+    (sizes nSection lengths : List ℕ)
     → Ruled fields id time dnaSize sizes nSection lengths
     → headerWith fields ≡ writtenHeader id time dnaSize sizes nSection lengths
 unfolding headerWith writtenHeader

@@ -1,7 +1,7 @@
 -- The table of contents that is written, of the fields that vary; and its bytes in the three parts
 -- in which they are written.
 use Prim.Native.Nat.{ℕ}
-use mathlib.Core.List.{List, _++_}
+use mathlib.Core.List.{List, [], _∷_, flatten}
 use lib.IntN.{pos}
 use Rattle.base.specs.Lists.{build}
 use Rattle.base.specs.Numbers.{leBytes}
@@ -51,20 +51,35 @@ zeros count = build count (λ k. 0)
 -- Bytes 0 to 41.
 unfoldable pub lengthBytes : (dna sizes ns : ℕ) → List ℕ
 lengthBytes dna sizes ns =
-    leBytes 2 0x7c49
-    ++ leBytes 4 121
-    ++ leBytes 4 dna
-    ++ zeros 12
-    ++ leBytes 4 sizes
-    ++ leBytes 4 ns
-    ++ zeros 12
+    flatten
+    (leBytes 2 0x7c49
+    ∷ leBytes 4 121
+    ∷ leBytes 4 dna
+    ∷ zeros 12
+    ∷ leBytes 4 sizes
+    ∷ leBytes 4 ns
+    ∷ zeros 12
+    ∷ [])
 
 -- Bytes 42 to 63.
 unfoldable pub countBytes : (flags size count id : ℕ) → List ℕ
 countBytes flags size count id =
-    leBytes 4 flags ++ leBytes 4 size ++ leBytes 4 count ++ leBytes 2 20505 ++ leBytes 8 id
+    flatten
+    (leBytes 4 flags
+    ∷ leBytes 4 size
+    ∷ leBytes 4 count
+    ∷ leBytes 2 20505
+    ∷ leBytes 8 id
+    ∷ [])
 
 -- Bytes 64 to 120.
 unfoldable pub rawBytes : (dna time : ℕ) → List ℕ
 rawBytes dna time =
-    leBytes 4 40 ++ zeros 5 ++ leBytes 4 dna ++ zeros 12 ++ leBytes 8 time ++ zeros 24
+    flatten
+    (leBytes 4 40
+    ∷ zeros 5
+    ∷ leBytes 4 dna
+    ∷ zeros 12
+    ∷ leBytes 8 time
+    ∷ zeros 24
+    ∷ [])

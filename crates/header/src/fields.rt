@@ -89,7 +89,8 @@ pub fn signed_size(number: i32) -> usize
 // The length of the header with its extra bytes.
 pub fn header_length(input: &[u8]) -> usize
     requires { ⌜ tableLength ≤ length (now input) ⌝ }
-    ensures { λ r. ⌜ (r ≡ nonNegative (headerOf (now (input .entry)) .«l_header»)) × (r < 2 ^ 31) ⌝ }
+    ensures { λ r. ⌜ (r ≡ nonNegative (headerOf (now (input .entry)) .«l_header»))
+        × (r < 2 ^ 31) ⌝ }
 {
     signed_size(l_header(input))
 }

@@ -43,7 +43,8 @@ pub struct VaryingFields {
 // Writes the table of contents with these fields.
 pub fn put_header(out: &mut [u8], fields: VaryingFields)
     requires { ⌜ tableLength ≤ length (now out) ⌝ }
-    ensures { λ _. ⌜ now (out .exit) ≡ pasted (now (out .entry)) 0 (headerBytes (headerWith fields)) ⌝ }
+    ensures { λ _. ⌜ now (out .exit)
+        ≡ pasted (now (out .entry)) 0 (headerBytes (headerWith fields)) ⌝ }
 {
     put_lengths(out, fields.l_dna, fields.l_size, fields.l_n);
     put_counts(
@@ -73,7 +74,8 @@ fn put_lengths(out: &mut [u8], dna: u32, sizes: u32, ns: u32)
 // Bytes 42 to 63: flags, l_read, n_reads, version and b_id.
 fn put_counts(out: &mut [u8], flags: u32, size: u32, count: u32, id: u64)
     requires { ⌜ tableLength ≤ length (now out) ⌝ }
-    ensures { λ _. ⌜ now (out .exit) ≡ pasted (now (out .entry)) 42 (countBytes flags size count id) ⌝ }
+    ensures { λ _. ⌜ now (out .exit)
+        ≡ pasted (now (out .entry)) 42 (countBytes flags size count id) ⌝ }
 {
     put_u32(out, 42, flags);
     put_u32(out, 46, size);

@@ -1,6 +1,6 @@
-// The lengths of a block's reads (refusals 9 and 10): a cursor that gives them read by read, and the
-// walk that validates them all; write.rt writes a size section. The contracts cite specs/Cursor.antt
-// and specs/Given.antt; none has a `requires`.
+// The lengths of a block's reads (refusals 9 and 10): a cursor that gives them read by read, and
+// the walk that validates them all; blocks.rt takes them from a block, write.rt writes a size
+// section. The contracts cite specs/Cursor.antt and specs/Given.antt; none has a `requires`.
 use dna::refusals::DNA_SIZE_WRONG;
 use dna::refusals::LENGTHS_INVALID;
 ghost use mathlib.Core.Path.{_≡_};

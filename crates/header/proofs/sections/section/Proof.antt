@@ -16,7 +16,8 @@ use Rattle.header.proofs.sections.section.Tie as tie
 -- What the definitions' span has, the span that is found has.
 span-found : (input : List ℕ) (number : ℕ) (span : format.Span) → span ≡ spanAnswer input number
     → SpanRight input number span
-span-found input number span same = subst (SpanRight input number) (sym same) (span-right input number)
+span-found input number span same =
+    subst (SpanRight input number) (sym same) (span-right input number)
 
 take-part : (input : List ℕ) (start size : ℕ)
     → take (start + size - start) (drop start input) ≡ part input start size

@@ -1,15 +1,10 @@
 -- `header::writing::put_raw_sizes` meets its contract: each writer starts where the one before it
 -- stopped. Assumes nothing.
-use mathlib.Core.Path.{refl}
-use Prim.Native.Nat.{_≤_}
 use native.Mathlib.Omega.{arith}
-use mathlib.Core.List.{_++_}
-use lib.ListN.{length}
 use borrow.Author.Needs.{needs}
-use Rattle.base.proofs.PasteLaws.{pasted-then}
-use Rattle.base.specs.Lists.{build}
-use Rattle.base.specs.Numbers.{leBytes}
-use Rattle.header.specs.WrittenHeader.{zeros, rawBytes}
+use Rattle.header.specs.WrittenHeader.{rawBytes}
+use Rattle.header.proofs.WritingLaws.{all-left, number-next, zeros-next, none-left}
+use Rattle.header.proofs.WrittenLaws.{length-rawBytes}
 use Rattle.header.proofs.writing.put_raw_sizes.Statement.{statement}
 use Rattle.header.proofs.writing.put_raw_sizes.Tie as tie
 
@@ -35,7 +30,7 @@ same-length : tie.Need-same-length
 same-length c = search needs
 
 returns : tie.Need-returns
-unfolding rawBytes leBytes zeros build
+unfolding rawBytes
 returns c =
     let w6 = c .before .before in
     let w5 = w6 .before .before .before .before in
@@ -44,33 +39,14 @@ returns c =
     let w2 = w3 .before .before .before .before in
     let w1 = w2 .before .before .before .before in
     let a = w1 .before .before .before .args in
-    let b = a .out .now in
-    let p1 = leBytes 4 40 in
-    let p2 = zeros 5 in
-    let p3 = leBytes 4 (a .dna) in
-    let p4 = zeros 12 in
-    let p5 = leBytes 8 (a .time) in
-    let p6 = zeros 24 in
-    let f2 : 68 ≤ length b = omega arith in
-    let s2 = pasted-then b (w1 .put-u32 .last .0) (w2 .put-zeros .last .0) 64 68 p1 p2 f2 refl
-    (w1 .put-u32 .ensures)
-    (w2 .put-zeros .ensures) in
-    let f3 : 73 ≤ length b = omega arith in
-    let s3 = pasted-then b (w2 .put-zeros .last .0) (w3 .put-u322 .last .0) 64 73
-    (p1 ++ p2) p3 f3 refl s2
-    (w3 .put-u322 .ensures) in
-    let f4 : 77 ≤ length b = omega arith in
-    let s4 = pasted-then b (w3 .put-u322 .last .0) (w4 .put-zeros2 .last .0) 64 77
-    (p1 ++ p2 ++ p3) p4 f4 refl s3
-    (w4 .put-zeros2 .ensures) in
-    let f5 : 89 ≤ length b = omega arith in
-    let s5 = pasted-then b (w4 .put-zeros2 .last .0) (w5 .put-u64 .last .0) 64 89
-    (p1 ++ p2 ++ p3 ++ p4) p5 f5 refl s4
-    (w5 .put-u64 .ensures) in
-    let f6 : 97 ≤ length b = omega arith in
-    pasted-then b (w5 .put-u64 .last .0) (w6 .put-zeros3 .last .0) 64 97
-    (p1 ++ p2 ++ p3 ++ p4 ++ p5) p6 f6 refl s5
-    (w6 .put-zeros3 .ensures)
+    let sized = length-rawBytes (a .dna) (a .time) in
+    let p0 = all-left (a .out .now) 64 57 _ sized (omega arith) in
+    let p1 = number-next 4 _ _ p0 (w1 .put-u32 .ensures) in
+    let p2 = zeros-next 5 _ p1 (w2 .put-zeros .ensures) in
+    let p3 = number-next 4 _ _ p2 (w3 .put-u322 .ensures) in
+    let p4 = zeros-next 12 _ p3 (w4 .put-zeros2 .ensures) in
+    let p5 = number-next 8 _ _ p4 (w5 .put-u64 .ensures) in
+    none-left (zeros-next 24 _ p5 (w6 .put-zeros3 .ensures))
 
 pub put-raw-sizes-spec : {M : Type 1} → statement M
 put-raw-sizes-spec =

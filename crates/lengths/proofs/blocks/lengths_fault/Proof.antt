@@ -45,7 +45,8 @@ l-read-requires : tie.Need-l-read-requires
 l-read-requires c κs = accepted-table _ (c .before .before .before .before .before .pre)
 
 raw-dna-size-requires : tie.Need-raw-dna-size-requires
-raw-dna-size-requires c κs = accepted-table _ (c .before .before .before .before .before .before .pre)
+raw-dna-size-requires c κs =
+    accepted-table _ (c .before .before .before .before .before .before .pre)
 
 lengths-fault-requires : tie.Need-lengths-fault-requires
 lengths-fault-requires c κs = search needs

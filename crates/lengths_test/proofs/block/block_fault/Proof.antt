@@ -1,5 +1,5 @@
--- `lengths_test::block::block_fault` is safe: the lengths are asked for where the header earns no number.
--- Assumes nothing.
+-- `lengths_test::block::block_fault` is safe: the lengths are asked for where the header earns no
+-- number. Assumes nothing.
 use Rattle.format.proofs.SectionLaws.{accepted-number}
 use borrow.Author.Needs.{needs}
 use Rattle.lengths_test.proofs.block.block_fault.Statement.{statement}

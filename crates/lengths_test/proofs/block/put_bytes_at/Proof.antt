@@ -1,5 +1,5 @@
--- `lengths_test::block::put_bytes_at` is safe and ends. The buffer keeps its length; the measure is how
--- many bytes are left. Assumes nothing.
+-- `lengths_test::block::put_bytes_at` is safe and ends. The buffer keeps its length; the measure is
+-- how many bytes are left. Assumes nothing.
 use mathlib.Core.Path.{_≡_}
 use Prim.Native.Nat.{_-_, _≤_}
 use lib.ListN.{length}

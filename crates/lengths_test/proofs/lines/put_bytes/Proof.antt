@@ -1,5 +1,5 @@
--- `lengths_test::lines::put_bytes` is safe and ends. The measure is how many bytes are left. Assumes
--- nothing.
+-- `lengths_test::lines::put_bytes` is safe and ends. The measure is how many bytes are left.
+-- Assumes nothing.
 use Prim.Native.Nat.{_-_, _≤_}
 use lib.ListN.{length}
 use borrow.Author.Needs.{needs}

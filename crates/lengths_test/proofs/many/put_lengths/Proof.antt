@@ -1,5 +1,5 @@
--- `lengths_test::many::put_lengths` is safe and ends. The slice keeps its length; the measure is how many
--- reads are left. Assumes nothing.
+-- `lengths_test::many::put_lengths` is safe and ends. The slice keeps its length; the measure is
+-- how many reads are left. Assumes nothing.
 use mathlib.Core.Path.{_≡_}
 use Prim.Native.Nat.{_-_}
 use lib.ListN.{length}

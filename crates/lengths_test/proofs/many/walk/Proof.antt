@@ -1,5 +1,5 @@
--- `lengths_test::many::walk` is safe and ends: each length is below 2 ^ 32, so the sum fits. The measure
--- is how many reads are left. Assumes nothing.
+-- `lengths_test::many::walk` is safe and ends: each length is below 2 ^ 32, so the sum fits. The
+-- measure is how many reads are left. Assumes nothing.
 use Prim.Native.Nat.{_-_, _*_, _≤_}
 use borrow.Author.Needs.{needs}
 use Rattle.lengths_test.proofs.many.walk.Statement.{statement}

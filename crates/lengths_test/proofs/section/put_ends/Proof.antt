@@ -1,5 +1,5 @@
--- `lengths_test::section::put_ends` is safe and ends. The slice keeps its length; the measure is how many
--- reads are left. Assumes nothing.
+-- `lengths_test::section::put_ends` is safe and ends. The slice keeps its length; the measure is
+-- how many reads are left. Assumes nothing.
 use mathlib.Core.Path.{_≡_}
 use Prim.Native.Nat.{_-_, _≤_}
 use lib.ListN.{length}
