@@ -120,7 +120,8 @@ pub fn put_u16(out: &mut [u8], at: usize, x: u16)
     out[at + 1] = (x / 256) as u8;
 }
 
-// Writes the four bytes of x at `at`.
+// Writes the four bytes of x at `at`. The compiler makes one store of them, on which the speed of
+// the writers of `reference` rests (docs/BENCHMARK.md).
 pub fn put_u32(out: &mut [u8], at: usize, x: u32)
     requires { ⌜ at + 4 ≤ length (now out) ⌝ }
     ensures { λ _. ⌜ now (out .exit) ≡ pasted (now (out .entry)) at (leBytes 4 x) ⌝ }

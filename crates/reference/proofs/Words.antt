@@ -1,11 +1,11 @@
 -- The table's word of the byte of four bases holds their letters. Assumes nothing.
 use mathlib.Core.Path.{_≡_, sym, ap, _∙_, subst}
-use Prim.Native.Nat.{ℕ, _+_, _*_, _/_, _%_, _≤_, _<_}
+use Prim.Native.Nat.{ℕ, _+_, _*_, _/_, _%_, _<_}
 use native.Mathlib.Nat.{zero-lt-suc}
 use native.Mathlib.Omega.{arith}
 use mathlib.Core.Bool.{Bool}
 use mathlib.Core.List.{List, [], _∷_}
-use lib.ListN.{length, getD, set}
+use lib.ListN.{length, getD}
 use Rattle.base.specs.Lists.{AllBytes}
 use Rattle.base.specs.Numbers.{le, leBytes}
 use Rattle.base.specs.Packed.{digit, symbolAt}
@@ -15,7 +15,6 @@ use Rattle.base.proofs.NumberLaws.{length-leBytes, leBytes-le}
 use Rattle.base.proofs.PlaceLaws.{at-self, at-same}
 use Rattle.base.proofs.PackedLaws.{byteOf-below, byteOf-cong, digit-byteOf, byteOf-digit}
 use Rattle.base.proofs.PasteLaws.{pasted-whole}
-use Rattle.base.proofs.FilledLaws.{four-pasted}
 use Rattle.dna.specs.Reference.{referenceBase, stretchLetters}
 use Rattle.dna.proofs.ReferenceLaws.{
   referenceBase-below,
@@ -33,19 +32,6 @@ pub leBytes-of-le : (bytes : List ℕ) → length bytes ≡ 4 → AllBytes bytes
 leBytes-of-le bytes size small =
     at-same (leBytes 4 (le 4 bytes 0)) bytes (length-leBytes 4 (le 4 bytes 0) ∙ sym size)
     (leBytes-le 4 0 small (omega arith)) (at-self bytes)
-
--- Stores of the bytes of a word write the word.
-pub word-stored : (buffer : List ℕ) (at word : ℕ) → at + 4 ≤ length buffer
-    → set
-    (set (set (set buffer at (word % 256)) (at + 1) (word / 256 % 256)) (at + 2) (word / 65536 % 256))
-    (at + 3)
-    (word / 16777216 % 256)
-    ≡ pasted buffer at (leBytes 4 word)
-unfolding leBytes
-word-stored buffer at word room =
-    let e₂ : word / 65536 ≡ word / 256 / 256 = omega arith in
-    let e₃ : word / 16777216 ≡ word / 256 / 256 / 256 = omega arith in
-    rw (e₂, e₃) (four-pasted buffer at _ _ _ _ room)
 
 -- ---- The byte of four bases
 

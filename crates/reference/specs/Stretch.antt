@@ -10,6 +10,7 @@ pub record StretchFits (reference : List ℕ) (leftmost bases : ℕ) : Type 0 wh
   pub inside : leftmost + bases ≤ 4 * length reference
   pub small : leftmost + bases ≤ maxReferenceBases
 
--- The byte of the four bases from an index of the reference on, which need not be a multiple of four.
+-- The byte of the four bases from an index of the reference on, which need not be a multiple of
+-- four.
 unfoldable pub basesByte : (reference : List ℕ) (index : ℕ) → ℕ
 basesByte reference index = byteOf 4 4 (λ k. referenceBase reference (index + k))

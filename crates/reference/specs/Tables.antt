@@ -7,7 +7,8 @@ use Rattle.base.specs.Lists.{build}
 use Rattle.base.specs.Numbers.{le}
 use Rattle.dna.specs.Reference.{stretchLetters}
 
--- The word of a byte: the little-endian number of the letters of its four bases, as a strand prints them.
+-- The word of a byte: the little-endian number of the letters of its four bases, as a strand prints
+-- them.
 unfoldable pub byteWord : (forward : Bool) (byte : ℕ) → ℕ
 byteWord forward byte = le 4 (stretchLetters (byte ∷ []) forward 0 4) 0
 

@@ -1,11 +1,14 @@
-// The reference: its size, its bases, and the ASCII letters of a stretch on either strand. The contracts cite
-// dna/specs/Reference.antt; the tables of words are those of specs/Tables.antt, made once and lent to each call.
+// The reference: its size, its bases, and the ASCII letters of a stretch on either strand. The
+// contracts cite dna/specs/Reference.antt; the tables of words are those of specs/Tables.antt, made
+// once and lent to each call.
+use integers::put_u32;
+use integers::size8;
+use integers::u32_at;
 use packing::symbol2;
 ghost use mathlib.Core.Path.{_≡_};
 ghost use mathlib.Core.Bool.{Bool, true, false};
 ghost use Prim.Native.Nat.{_+_, _-_, _*_, _/_, _<_, _≤_};
 ghost use lib.ListN.{length};
-ghost use Rattle.base.specs.Numbers.{le, leBytes};
 ghost use Rattle.base.specs.Paste.{pasted};
 ghost use Rattle.dna.specs.Reference.{
   maxReferenceBases,
@@ -102,8 +105,13 @@ pub fn put_stretch(
     out: &mut [u8],
     at: usize,
 )
-    requires { ⌜ (StretchFits (now reference) leftmost bases) × (at + bases ≤ length (now out)) × (now «forward_table» ≡ wordTable true) × (now «reverse_table» ≡ wordTable false) ⌝ }
-    ensures { λ _. ⌜ now (out .exit) ≡ pasted (now (out .entry)) at (stretchLetters (now (reference .entry)) forward leftmost bases) ⌝ }
+    requires { ⌜ (StretchFits (now reference) leftmost bases)
+        × (at + bases ≤ length (now out))
+        × (now «forward_table» ≡ wordTable true)
+        × (now «reverse_table» ≡ wordTable false) ⌝ }
+    ensures { λ _. ⌜ now (out .exit)
+        ≡ pasted (now (out .entry)) at
+        (stretchLetters (now (reference .entry)) forward leftmost bases) ⌝ }
 {
     if forward {
         put_stretch_forward(reference, leftmost, bases, forward_table, out, at);
@@ -112,8 +120,8 @@ pub fn put_stretch(
     put_stretch_reverse(reference, leftmost, bases, reverse_table, out, at);
 }
 
-// Writes the letters of a stretch on the forward strand: the first four, whole bytes after them, and the last
-// eight over what stands. `table` is the forward strand's.
+// Writes the letters of a stretch on the forward strand: the first four, whole bytes after them,
+// and the last eight over what stands. `table` is the forward strand's.
 pub fn put_stretch_forward(
     reference: &[u8],
     leftmost: usize,
@@ -122,8 +130,12 @@ pub fn put_stretch_forward(
     out: &mut [u8],
     at: usize,
 )
-    requires { ⌜ (StretchFits (now reference) leftmost bases) × (at + bases ≤ length (now out)) × (now table ≡ wordTable true) ⌝ }
-    ensures { λ _. ⌜ now (out .exit) ≡ pasted (now (out .entry)) at (stretchLetters (now (reference .entry)) true leftmost bases) ⌝ }
+    requires { ⌜ (StretchFits (now reference) leftmost bases)
+        × (at + bases ≤ length (now out))
+        × (now table ≡ wordTable true) ⌝ }
+    ensures { λ _. ⌜ now (out .exit)
+        ≡ pasted (now (out .entry)) at
+        (stretchLetters (now (reference .entry)) true leftmost bases) ⌝ }
 {
     if bases < 8 {
         put_letters(reference, true, leftmost, bases, out, at);
@@ -138,8 +150,8 @@ pub fn put_stretch_forward(
     put_four(reference, leftmost + tail + 4, table, out, at + tail + 4);
 }
 
-// Writes the letters of a stretch on the reverse strand, which begin at its other end. `table` is the reverse
-// strand's.
+// Writes the letters of a stretch on the reverse strand, which begin at its other end. `table` is
+// the reverse strand's.
 pub fn put_stretch_reverse(
     reference: &[u8],
     leftmost: usize,
@@ -148,8 +160,12 @@ pub fn put_stretch_reverse(
     out: &mut [u8],
     at: usize,
 )
-    requires { ⌜ (StretchFits (now reference) leftmost bases) × (at + bases ≤ length (now out)) × (now table ≡ wordTable false) ⌝ }
-    ensures { λ _. ⌜ now (out .exit) ≡ pasted (now (out .entry)) at (stretchLetters (now (reference .entry)) false leftmost bases) ⌝ }
+    requires { ⌜ (StretchFits (now reference) leftmost bases)
+        × (at + bases ≤ length (now out))
+        × (now table ≡ wordTable false) ⌝ }
+    ensures { λ _. ⌜ now (out .exit)
+        ≡ pasted (now (out .entry)) at
+        (stretchLetters (now (reference .entry)) false leftmost bases) ⌝ }
 {
     if bases < 8 {
         put_letters(reference, false, leftmost, bases, out, at);
@@ -174,16 +190,20 @@ fn put_pairs_forward(
     out: &mut [u8],
     at: usize,
 )
-    requires { ⌜ (first + 2 * pairs ≤ length (now reference)) × (at + 8 * pairs ≤ length (now out)) × (now table ≡ wordTable true) ⌝ }
-    ensures { λ _. ⌜ now (out .exit) ≡ pasted (now (out .entry)) at (stretchLetters (now (reference .entry)) true (4 * first) (8 * pairs)) ⌝ }
+    requires { ⌜ (first + 2 * pairs ≤ length (now reference))
+        × (at + 8 * pairs ≤ length (now out))
+        × (now table ≡ wordTable true) ⌝ }
+    ensures { λ _. ⌜ now (out .exit)
+        ≡ pasted (now (out .entry)) at
+        (stretchLetters (now (reference .entry)) true (4 * first) (8 * pairs)) ⌝ }
 {
     let mut k: usize = 0;
     while k < pairs {
-        put_word(out, at + 8 * k, table[wide(reference[first + 2 * k])]);
-        put_word(
+        put_u32(out, at + 8 * k, table[size8(reference[first + 2 * k])]);
+        put_u32(
             out,
             at + 8 * k + 4,
-            table[wide(reference[first + 2 * k + 1])],
+            table[size8(reference[first + 2 * k + 1])],
         );
         k += 1;
     }
@@ -198,14 +218,19 @@ fn put_pairs_reverse(
     out: &mut [u8],
     at: usize,
 )
-    requires { ⌜ (2 * pairs ≤ end) × (end ≤ length (now reference)) × (at + 8 * pairs ≤ length (now out)) × (now table ≡ wordTable false) ⌝ }
-    ensures { λ _. ⌜ now (out .exit) ≡ pasted (now (out .entry)) at (stretchLetters (now (reference .entry)) false (4 * end - 8 * pairs) (8 * pairs)) ⌝ }
+    requires { ⌜ (2 * pairs ≤ end)
+        × (end ≤ length (now reference))
+        × (at + 8 * pairs ≤ length (now out))
+        × (now table ≡ wordTable false) ⌝ }
+    ensures { λ _. ⌜ now (out .exit)
+        ≡ pasted (now (out .entry)) at
+        (stretchLetters (now (reference .entry)) false (4 * end - 8 * pairs) (8 * pairs)) ⌝ }
 {
     let mut byte = end;
     let mut k: usize = 0;
     while k < pairs {
-        put_word(out, at + 8 * k, table[wide(reference[byte - 1])]);
-        put_word(out, at + 8 * k + 4, table[wide(reference[byte - 2])]);
+        put_u32(out, at + 8 * k, table[size8(reference[byte - 1])]);
+        put_u32(out, at + 8 * k + 4, table[size8(reference[byte - 2])]);
         byte -= 2;
         k += 1;
     }
@@ -214,9 +239,12 @@ fn put_pairs_reverse(
 // Writes the letters of the four bases from an index on, on the strand whose table is lent.
 fn put_four(reference: &[u8], index: usize, table: &[u32; 256], out: &mut [u8], at: usize)
     requires { ⌜ (StretchFits (now reference) index 4) × (at + 4 ≤ length (now out)) ⌝ }
-    ensures { λ _. ⌜ ((forward : Bool) → now (table .entry) ≡ wordTable forward → now (out .exit) ≡ pasted (now (out .entry)) at (stretchLetters (now (reference .entry)) forward index 4)) ⌝ }
+    ensures { λ _. ⌜ ((forward : Bool) → now (table .entry) ≡ wordTable forward
+        → now (out .exit)
+        ≡ pasted (now (out .entry)) at
+        (stretchLetters (now (reference .entry)) forward index 4)) ⌝ }
 {
-    put_word(out, at, table[bases_byte(reference, index)]);
+    put_u32(out, at, table[bases_byte(reference, index)]);
 }
 
 // The byte of the four bases from an index on: no branch, and no read past the last of them.
@@ -224,19 +252,8 @@ fn bases_byte(reference: &[u8], index: usize) -> usize
     requires { ⌜ StretchFits (now reference) index 4 ⌝ }
     ensures { λ r. ⌜ (r ≡ basesByte (now (reference .entry)) index) × (r < 256) ⌝ }
 {
-    let both = wide(reference[index / 4]) * 256 + wide(reference[(index + 3) / 4]);
+    let both = size8(reference[index / 4]) * 256 + size8(reference[(index + 3) / 4]);
     (both >> (8 - 2 * (index % 4))) % 256
-}
-
-// Writes the four bytes of a word, the lowest first: the compiler makes one store of them.
-fn put_word(out: &mut [u8], at: usize, word: u32)
-    requires { ⌜ at + 4 ≤ length (now out) ⌝ }
-    ensures { λ _. ⌜ now (out .exit) ≡ pasted (now (out .entry)) at (leBytes 4 word) ⌝ }
-{
-    out[at] = (word % 256) as u8;
-    out[at + 1] = (word / 256 % 256) as u8;
-    out[at + 2] = (word / 65536 % 256) as u8;
-    out[at + 3] = (word / 16777216 % 256) as u8;
 }
 
 // Writes the letters of a stretch one at a time, from index `at` of the buffer on.
@@ -249,7 +266,9 @@ fn put_letters(
     at: usize,
 )
     requires { ⌜ (StretchFits (now reference) leftmost bases) × (at + bases ≤ length (now out)) ⌝ }
-    ensures { λ _. ⌜ now (out .exit) ≡ pasted (now (out .entry)) at (stretchLetters (now (reference .entry)) forward leftmost bases) ⌝ }
+    ensures { λ _. ⌜ now (out .exit)
+        ≡ pasted (now (out .entry)) at
+        (stretchLetters (now (reference .entry)) forward leftmost bases) ⌝ }
 {
     let mut k: usize = 0;
     while k < bases {
@@ -277,28 +296,5 @@ fn byte_word(forward: bool, byte: u8) -> u32
     let one = [byte];
     let mut letters = [0u8; 4];
     put_letters(&one, forward, 0, 4, &mut letters, 0);
-    word_of(letters)
-}
-
-// The little-endian number of four bytes.
-fn word_of(bytes: [u8; 4]) -> u32
-    ensures { λ r. ⌜ r ≡ le 4 bytes 0 ⌝ }
-{
-    let low = wide_u32(bytes[0]) + 256 * wide_u32(bytes[1]);
-    let high = wide_u32(bytes[2]) + 256 * wide_u32(bytes[3]);
-    low + 65536 * high
-}
-
-// A byte as an index.
-fn wide(x: u8) -> usize
-    ensures { λ r. ⌜ (r ≡ x) × (r < 256) ⌝ }
-{
-    x as usize
-}
-
-// A byte as a part of a word.
-fn wide_u32(x: u8) -> u32
-    ensures { λ r. ⌜ (r ≡ x) × (r < 256) ⌝ }
-{
-    x as u32
+    u32_at(&letters, 0)
 }

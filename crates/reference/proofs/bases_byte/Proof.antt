@@ -5,23 +5,23 @@ use Rattle.reference.proofs.Neighbours.{bases-of-two}
 use Rattle.reference.proofs.bases_byte.Statement.{statement}
 use Rattle.reference.proofs.bases_byte.Tie as tie
 
-shared-slice-read-wide : tie.Need-shared-slice-read-wide
-shared-slice-read-wide c = search needs
+shared-slice-read-size8 : tie.Need-shared-slice-read-size8
+shared-slice-read-size8 c = search needs
 
-wide-requires : tie.Need-wide-requires
-wide-requires c κs = search needs
+size8-requires : tie.Need-size8-requires
+size8-requires c κs = search needs
 
 mul-both : tie.Need-mul-both
 mul-both c = search needs
 
-add-wide : tie.Need-add-wide
-add-wide c = search needs
+add-size8 : tie.Need-add-size8
+add-size8 c = search needs
 
-shared-slice-read-wide-2 : tie.Need-shared-slice-read-wide-2
-shared-slice-read-wide-2 c = search needs
+shared-slice-read-size8-2 : tie.Need-shared-slice-read-size8-2
+shared-slice-read-size8-2 c = search needs
 
-wide-requires-2 : tie.Need-wide-requires-2
-wide-requires-2 c κs = search needs
+size8-requires-2 : tie.Need-size8-requires-2
+size8-requires-2 c κs = search needs
 
 add-both : tie.Need-add-both
 add-both c = search needs
@@ -38,18 +38,18 @@ shr-result c = search needs
 returns : tie.Need-returns
 returns c =
     let a = c .before .before .before .before .before .args in
-    (bases-of-two (a .reference .now) (a .index) (c .before .before .wide .result) (c .wide2 .result) (c .before .before .wide .ensures .0) (c .before .before .wide .ensures .1) (c .wide2 .ensures .0) (c .wide2 .ensures .1), omega arith)
+    (bases-of-two (a .reference .now) (a .index) (c .before .before .size8 .result) (c .size82 .result) (c .before .before .size8 .ensures .0) (c .before .before .size8 .ensures .1) (c .size82 .ensures .0) (c .size82 .ensures .1), omega arith)
 
 pub bases-byte-spec : {M : Type 1} → statement M
 bases-byte-spec =
     tie.close
     (tie.spec
-    shared-slice-read-wide
-    wide-requires
+    shared-slice-read-size8
+    size8-requires
     mul-both
-    add-wide
-    shared-slice-read-wide-2
-    wide-requires-2
+    add-size8
+    shared-slice-read-size8-2
+    size8-requires-2
     add-both
     mul-result
     sub-result

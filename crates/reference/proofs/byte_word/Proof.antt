@@ -1,4 +1,5 @@
--- `reference::byte_word` meets its contract: the letters of a reference of that byte alone, as a number. Assumes nothing.
+-- `reference::byte_word` meets its contract: the letters of a reference of that byte alone, as a
+-- number. Assumes nothing.
 use mathlib.Core.Path.{refl}
 use borrow.Author.Needs.{needs}
 use Rattle.reference.proofs.Words.{byteWord-is}
@@ -14,13 +15,18 @@ slice-aggregate-put-letters-2 c = search needs
 put-letters-requires : tie.Need-put-letters-requires
 put-letters-requires c κs = search needs
 
-word-of-requires : tie.Need-word-of-requires
-word-of-requires c κs = search needs
+slice-aggregate-u32-at : tie.Need-slice-aggregate-u32-at
+slice-aggregate-u32-at c = search needs
+
+u32-at-requires : tie.Need-u32-at-requires
+u32-at-requires c κs = search needs
 
 returns : tie.Need-returns
 returns c =
-    let a = c .before .before .before .before .before .args in
-    byteWord-is (a .forward) (a .byte) (c .word-of .result) _ _ refl (c .before .before .put-letters .ensures) (c .word-of .ensures)
+    let written = c .before .before .before in
+    let a = written .before .before .before .args in
+    byteWord-is (a .forward) (a .byte) (c .u32-at .result) _ _ refl (written .put-letters .ensures)
+    (c .u32-at .ensures)
 
 pub byte-word-spec : {M : Type 1} → statement M
 byte-word-spec =
@@ -29,5 +35,6 @@ byte-word-spec =
     slice-aggregate-put-letters
     slice-aggregate-put-letters-2
     put-letters-requires
-    word-of-requires
+    slice-aggregate-u32-at
+    u32-at-requires
     returns)

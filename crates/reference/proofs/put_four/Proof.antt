@@ -9,21 +9,21 @@ use Rattle.reference.proofs.put_four.Tie as tie
 bases-byte-requires : tie.Need-bases-byte-requires
 bases-byte-requires c κs = search needs
 
-mul-put-word : tie.Need-mul-put-word
-mul-put-word c = search needs
+mul-put-u32 : tie.Need-mul-put-u32
+mul-put-u32 c = search needs
 
-element-copy-out-put-word : tie.Need-element-copy-out-put-word
-element-copy-out-put-word c = search needs
+element-copy-out-put-u32 : tie.Need-element-copy-out-put-u32
+element-copy-out-put-u32 c = search needs
 
-put-word-requires : tie.Need-put-word-requires
-put-word-requires c κs = search needs
+put-u32-requires : tie.Need-put-u32-requires
+put-u32-requires c κs = search needs
 
 same-length : tie.Need-same-length
 same-length c = search needs
 
 returns : tie.Need-returns
 returns c = λ forward lent.
-    c .before .before .put-word .ensures
+    c .before .before .put-u32 .ensures
     ∙ ap (pasted (c .before .before .before .before .before .before .before .before .args .out .now) (c .before .before .before .before .before .before .before .before .args .at))
     (table-letters (c .before .before .before .before .before .before .before .before .args .table .now) (c .before .before .before .before .before .before .before .before .args .reference .now) forward (c .before .before .before .before .before .before .before .before .args .index) (c .before .before .before .before .bases-byte .result) lent (c .before .before .before .before .bases-byte .ensures .0))
 
@@ -32,8 +32,8 @@ put-four-spec =
     tie.close
     (tie.spec
     bases-byte-requires
-    mul-put-word
-    element-copy-out-put-word
-    put-word-requires
+    mul-put-u32
+    element-copy-out-put-u32
+    put-u32-requires
     same-length
     returns)

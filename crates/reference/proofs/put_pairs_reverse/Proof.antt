@@ -22,56 +22,56 @@ loop-holds c =
     let a = c .before .before .args in
     (omega arith, omega arith, written-none (a .reference .now) false (4 * a .end - 8 * a .pairs) (8 * a .pairs) (a .out .now) (a .at))
 
-mul-put-word : tie.Need-mul-put-word Inv-loop μ-loop
-mul-put-word c = search needs
+mul-put-u32 : tie.Need-mul-put-u32 Inv-loop μ-loop
+mul-put-u32 c = search needs
 
-add-put-word : tie.Need-add-put-word Inv-loop μ-loop
-add-put-word c = search needs
+add-put-u32 : tie.Need-add-put-u32 Inv-loop μ-loop
+add-put-u32 c = search needs
 
-sub-wide : tie.Need-sub-wide Inv-loop μ-loop
-sub-wide c = search needs
+sub-size8 : tie.Need-sub-size8 Inv-loop μ-loop
+sub-size8 c = search needs
 
-shared-slice-read-wide : tie.Need-shared-slice-read-wide Inv-loop μ-loop
-shared-slice-read-wide c = search needs
+shared-slice-read-size8 : tie.Need-shared-slice-read-size8 Inv-loop μ-loop
+shared-slice-read-size8 c = search needs
 
-wide-requires : tie.Need-wide-requires Inv-loop μ-loop
-wide-requires c κs = search needs
+size8-requires : tie.Need-size8-requires Inv-loop μ-loop
+size8-requires c κs = search needs
 
-mul-put-word-2 : tie.Need-mul-put-word-2 Inv-loop μ-loop
-mul-put-word-2 c = search needs
+mul-put-u32-2 : tie.Need-mul-put-u32-2 Inv-loop μ-loop
+mul-put-u32-2 c = search needs
 
-element-copy-out-put-word : tie.Need-element-copy-out-put-word Inv-loop μ-loop
-element-copy-out-put-word c = search needs
+element-copy-out-put-u32 : tie.Need-element-copy-out-put-u32 Inv-loop μ-loop
+element-copy-out-put-u32 c = search needs
 
-put-word-requires : tie.Need-put-word-requires Inv-loop μ-loop
-put-word-requires c κs = omega (arith, c .before .before .before .before .before .loop .inv .2 .sized)
+put-u32-requires : tie.Need-put-u32-requires Inv-loop μ-loop
+put-u32-requires c κs = omega (arith, c .before .before .before .before .before .loop .inv .2 .sized)
 
-mul-put-word-3 : tie.Need-mul-put-word-3 Inv-loop μ-loop
-mul-put-word-3 c = search needs
+mul-put-u32-3 : tie.Need-mul-put-u32-3 Inv-loop μ-loop
+mul-put-u32-3 c = search needs
 
-add-put-word-2 : tie.Need-add-put-word-2 Inv-loop μ-loop
-add-put-word-2 c = search needs
+add-put-u32-2 : tie.Need-add-put-u32-2 Inv-loop μ-loop
+add-put-u32-2 c = search needs
 
-add-put-word-3 : tie.Need-add-put-word-3 Inv-loop μ-loop
-add-put-word-3 c = search needs
+add-put-u32-3 : tie.Need-add-put-u32-3 Inv-loop μ-loop
+add-put-u32-3 c = search needs
 
-sub-wide-2 : tie.Need-sub-wide-2 Inv-loop μ-loop
-sub-wide-2 c = search needs
+sub-size8-2 : tie.Need-sub-size8-2 Inv-loop μ-loop
+sub-size8-2 c = search needs
 
-shared-slice-read-wide-2 : tie.Need-shared-slice-read-wide-2 Inv-loop μ-loop
-shared-slice-read-wide-2 c = search needs
+shared-slice-read-size8-2 : tie.Need-shared-slice-read-size8-2 Inv-loop μ-loop
+shared-slice-read-size8-2 c = search needs
 
-wide-requires-2 : tie.Need-wide-requires-2 Inv-loop μ-loop
-wide-requires-2 c κs = search needs
+size8-requires-2 : tie.Need-size8-requires-2 Inv-loop μ-loop
+size8-requires-2 c κs = search needs
 
-mul-put-word-4 : tie.Need-mul-put-word-4 Inv-loop μ-loop
-mul-put-word-4 c = search needs
+mul-put-u32-4 : tie.Need-mul-put-u32-4 Inv-loop μ-loop
+mul-put-u32-4 c = search needs
 
-element-copy-out-put-word-2 : tie.Need-element-copy-out-put-word-2 Inv-loop μ-loop
-element-copy-out-put-word-2 c = search needs
+element-copy-out-put-u32-2 : tie.Need-element-copy-out-put-u32-2 Inv-loop μ-loop
+element-copy-out-put-u32-2 c = search needs
 
-put-word-requires-2 : tie.Need-put-word-requires-2 Inv-loop μ-loop
-put-word-requires-2 c κs = omega (arith, c .before .before .before .before .before .before .before .before .before .before .before .before .loop .inv .2 .sized)
+put-u32-requires-2 : tie.Need-put-u32-requires-2 Inv-loop μ-loop
+put-u32-requires-2 c κs = omega (arith, c .before .before .before .before .before .before .before .before .before .before .before .before .loop .inv .2 .sized)
 
 sub-byte : tie.Need-sub-byte Inv-loop μ-loop
 sub-byte c = search needs
@@ -86,15 +86,15 @@ loop-again : tie.Need-loop-again Inv-loop μ-loop
 loop-again c =
     let a = c .before .before .before .before .before .before .before .before .before .before .before .before .before .before .before .before .before .before .args in
     let l = c .before .before .before .before .before .before .before .before .before .before .before .before .before .before .before .loop in
-    let x = c .before .before .before .before .before .before .before .before .before .before .before .wide in
-    let y = c .before .before .before .before .wide2 in
+    let x = c .before .before .before .before .before .before .before .before .before .before .before .size8 in
+    let y = c .before .before .before .before .size82 in
     let lent = c .before .before .before .before .before .before .before .before .before .before .before .before .before .before .before .before .before .before .pre .3 in
     let inside = c .before .before .before .before .before .before .before .before .before .before .before .before .before .before .loop-test .taken in (
       omega arith,
       omega arith,
-      pair-written (a .reference .now) false (4 * a .end - 8 * a .pairs) (8 * a .pairs) (a .table .now) (c .before .before .before .before .before .before .before .before .before .put-word .last .0)
-          (c .before .before .put-word2 .last .0) (a .at + 8 * l .k) (l .k) (l .byte - 1) (l .byte - 2) (x .result) (y .result) lent (l .inv .2)
-          (omega arith) (omega arith) (c .before .before .before .before .before .before .before .before .before .put-word .ensures) (c .before .before .put-word2 .ensures) refl (x .ensures .0) (x .ensures .1)
+      pair-written (a .reference .now) false (4 * a .end - 8 * a .pairs) (8 * a .pairs) (a .table .now) (c .before .before .before .before .before .before .before .before .before .put-u32 .last .0)
+          (c .before .before .put-u322 .last .0) (a .at + 8 * l .k) (l .k) (l .byte - 1) (l .byte - 2) (x .result) (y .result) lent (l .inv .2)
+          (omega arith) (omega arith) (c .before .before .before .before .before .before .before .before .before .put-u32 .ensures) (c .before .before .put-u322 .ensures) refl (x .ensures .0) (x .ensures .1)
           (y .ensures .0) (y .ensures .1) (omega arith) (omega arith),
     )
 
@@ -113,23 +113,23 @@ put-pairs-reverse-spec =
     Inv-loop
     μ-loop
     loop-holds
-    mul-put-word
-    add-put-word
-    sub-wide
-    shared-slice-read-wide
-    wide-requires
-    mul-put-word-2
-    element-copy-out-put-word
-    put-word-requires
-    mul-put-word-3
-    add-put-word-2
-    add-put-word-3
-    sub-wide-2
-    shared-slice-read-wide-2
-    wide-requires-2
-    mul-put-word-4
-    element-copy-out-put-word-2
-    put-word-requires-2
+    mul-put-u32
+    add-put-u32
+    sub-size8
+    shared-slice-read-size8
+    size8-requires
+    mul-put-u32-2
+    element-copy-out-put-u32
+    put-u32-requires
+    mul-put-u32-3
+    add-put-u32-2
+    add-put-u32-3
+    sub-size8-2
+    shared-slice-read-size8-2
+    size8-requires-2
+    mul-put-u32-4
+    element-copy-out-put-u32-2
+    put-u32-requires-2
     sub-byte
     add-k
     loop-less
