@@ -1,4 +1,5 @@
--- `reference::bases_byte` meets its contract: two neighbouring bytes hold the four bases. Assumes nothing.
+-- `reference::bases_byte` meets its contract: two neighbouring bytes hold the four bases. Assumes
+-- nothing.
 use native.Mathlib.Omega.{arith}
 use borrow.Author.Needs.{needs}
 use Rattle.reference.proofs.Neighbours.{bases-of-two}
@@ -37,8 +38,16 @@ shr-result c = search needs
 
 returns : tie.Need-returns
 returns c =
-    let a = c .before .before .before .before .before .args in
-    (bases-of-two (a .reference .now) (a .index) (c .before .before .size8 .result) (c .size82 .result) (c .before .before .size8 .ensures .0) (c .before .before .size8 .ensures .1) (c .size82 .ensures .0) (c .size82 .ensures .1), omega arith)
+    let first = c .before .before in
+    let a = first .before .before .before .args in
+    let x = first .size8 in
+    let y = c .size82 in (
+      bases-of-two (a .reference .now) (a .index) (x .result) (y .result) (x .ensures .0)
+          (x .ensures .1)
+          (y .ensures .0)
+          (y .ensures .1),
+      omega arith,
+    )
 
 pub bases-byte-spec : {M : Type 1} → statement M
 bases-byte-spec =

@@ -1,4 +1,5 @@
--- `reference::fill_words` meets its contract: the invariant: the words of the bytes passed stand. The measure is what is left. Assumes nothing.
+-- `reference::fill_words` meets its contract. The invariant: the words of the bytes passed stand.
+-- The measure is what is left. Assumes nothing.
 use Prim.Native.Nat.{_≤_, _-_}
 use native.Mathlib.Omega.{arith}
 use mathlib.Core.Path.{_∙_, sym}
@@ -11,13 +12,16 @@ use Rattle.reference.proofs.fill_words.Statement.{statement}
 use Rattle.reference.proofs.fill_words.Tie as tie
 
 abbrev Inv-loop : tie.InvT-loop
-Inv-loop forward table₀ byte₀ table byte = (byte ≤ 256) × (Filled table₀ table 0 (wordTable forward) byte)
+Inv-loop forward table₀ byte₀ table byte =
+    (byte ≤ 256) × (Filled table₀ table 0 (wordTable forward) byte)
 
 abbrev μ-loop : tie.MeasureT-loop
 μ-loop forward table₀ byte₀ table byte = 256 - byte
 
 loop-holds : tie.Need-loop-holds Inv-loop μ-loop
-loop-holds c = (omega arith, filled-none (c .before .args .table .now) 0 (wordTable (c .before .args .forward)))
+loop-holds c =
+    let a = c .before .args in
+    (omega arith, filled-none (a .table .now) 0 (wordTable (a .forward)))
 
 cast-byte-word : tie.Need-cast-byte-word Inv-loop μ-loop
 cast-byte-word c = search needs
@@ -39,10 +43,15 @@ loop-less c = search needs
 
 loop-again : tie.Need-loop-again Inv-loop μ-loop
 loop-again c =
-    let size = length-wordTable (c .before .before .before .before .args .forward) in (
+    let turn = c .before .before in
+    let l = turn .loop in
+    let forward = turn .before .before .args .forward in
+    let size = length-wordTable forward in (
       omega arith,
-      filled-next (c .before .before .loop .byte) (c .byte-word .result) (c .before .before .loop .inv .1) (omega arith) (omega arith) (omega arith)
-          (c .byte-word .ensures ∙ sym (getD-wordTable (c .before .before .before .before .args .forward) (c .before .before .loop .byte) (c .before .loop-test .taken))),
+      filled-next (l .byte) (c .byte-word .result) (l .inv .1) (omega arith) (omega arith)
+          (omega arith)
+          (c .byte-word .ensures
+          ∙ sym (getD-wordTable forward (l .byte) (c .before .loop-test .taken))),
     )
 
 same-length : tie.Need-same-length Inv-loop μ-loop
@@ -50,9 +59,10 @@ same-length c = c .before .loop .inv .1 .sized
 
 returns : tie.Need-returns Inv-loop μ-loop
 returns c =
-    let size = length-wordTable (c .before .before .before .args .forward) in
+    let a = c .before .before .before .args in
+    let size = length-wordTable (a .forward) in
     filled-all (c .before .loop .inv .1) (omega arith) (omega arith)
-    ∙ pasted-whole (c .before .before .before .args .table .now) (wordTable (c .before .before .before .args .forward)) (omega arith)
+    ∙ pasted-whole (a .table .now) (wordTable (a .forward)) (omega arith)
 
 pub fill-words-spec : {M : Type 1} → statement M
 fill-words-spec =

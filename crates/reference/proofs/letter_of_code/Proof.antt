@@ -1,4 +1,5 @@
--- `reference::letter_of_code` meets its contract: the letters stand in one constant. Assumes nothing.
+-- `reference::letter_of_code` meets its contract: the letters stand in one constant. Assumes
+-- nothing.
 use borrow.Author.Needs.{needs}
 use Rattle.reference.proofs.Codes.{letter-shifted}
 use Rattle.reference.proofs.letter_of_code.Statement.{statement}

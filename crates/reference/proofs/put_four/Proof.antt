@@ -1,4 +1,5 @@
--- `reference::put_four` meets its contract: the table's word of the byte of the four bases holds their letters. Assumes nothing.
+-- `reference::put_four` meets its contract: the table's word of the byte of the four bases holds
+-- their letters. Assumes nothing.
 use mathlib.Core.Path.{_∙_, ap}
 use borrow.Author.Needs.{needs}
 use Rattle.base.specs.Paste.{pasted}
@@ -23,9 +24,14 @@ same-length c = search needs
 
 returns : tie.Need-returns
 returns c = λ forward lent.
-    c .before .before .put-u32 .ensures
-    ∙ ap (pasted (c .before .before .before .before .before .before .before .before .args .out .now) (c .before .before .before .before .before .before .before .before .args .at))
-    (table-letters (c .before .before .before .before .before .before .before .before .args .table .now) (c .before .before .before .before .before .before .before .before .args .reference .now) forward (c .before .before .before .before .before .before .before .before .args .index) (c .before .before .before .before .bases-byte .result) lent (c .before .before .before .before .bases-byte .ensures .0))
+    let written = c .before .before in
+    let read = written .before .before in
+    let a = read .before .before .before .before .args in
+    written .put-u32 .ensures
+    ∙ ap (pasted (a .out .now) (a .at))
+    (table-letters (a .table .now) (a .reference .now) forward (a .index)
+    (read .bases-byte .result) lent
+    (read .bases-byte .ensures .0))
 
 pub put-four-spec : {M : Type 1} → statement M
 put-four-spec =

@@ -1,4 +1,5 @@
--- `reference::put_letters` meets its contract: the invariant: the letters passed stand. The measure is what is left. Assumes nothing.
+-- `reference::put_letters` meets its contract. The invariant: the letters passed stand. The measure
+-- is what is left. Assumes nothing.
 use Prim.Native.Nat.{_≤_, _-_}
 use native.Mathlib.Omega.{arith}
 use mathlib.Core.Path.{_∙_, ap}
@@ -19,16 +20,22 @@ abbrev μ-loop : tie.MeasureT-loop
 
 loop-holds : tie.Need-loop-holds Inv-loop μ-loop
 loop-holds c =
-    let a = c .before .before .args in
-    (omega arith, written-none (a .reference .now) (a .forward) (a .leftmost) (a .bases) (a .out .now) (a .at))
+    let a = c .before .before .args in (
+      omega arith,
+      written-none (a .reference .now) (a .forward) (a .leftmost) (a .bases) (a .out .now) (a .at),
+    )
 
 stretch-index-requires : tie.Need-stretch-index-requires Inv-loop μ-loop
 stretch-index-requires c κs = search needs
 
 strand-base-requires : tie.Need-strand-base-requires Inv-loop μ-loop
 strand-base-requires c κs =
-    let a = c .before .before .before .before .before .args in
-    omega (arith, c .stretch-index .ensures, stretchIndex-inside (a .forward) (a .leftmost) (a .bases) (c .before .before .loop .k) (c .before .loop-test .taken))
+    let turn = c .before .before in
+    let a = turn .before .before .before .args in
+    let inside =
+    stretchIndex-inside (a .forward) (a .leftmost) (a .bases) (turn .loop .k)
+    (c .before .loop-test .taken) in
+    omega (arith, c .stretch-index .ensures, inside)
 
 letter-of-code-requires : tie.Need-letter-of-code-requires Inv-loop μ-loop
 letter-of-code-requires c κs = code-small _ _ (c .strand-base .ensures) (strandBase-below _ _ _)
@@ -37,7 +44,9 @@ add-out : tie.Need-add-out Inv-loop μ-loop
 add-out c = search needs
 
 slice-write-out : tie.Need-slice-write-out Inv-loop μ-loop
-slice-write-out c = omega (arith, c .before .before .before .before .loop .inv .1 .sized)
+slice-write-out c =
+    let turn = c .before .before .before .before in
+    omega (arith, turn .loop .inv .1 .sized)
 
 add-k : tie.Need-add-k Inv-loop μ-loop
 add-k c = search needs
@@ -47,11 +56,17 @@ loop-less c = search needs
 
 loop-again : tie.Need-loop-again Inv-loop μ-loop
 loop-again c =
-    let a = c .before .before .before .before .before .before .before .args in (
+    let inside = c .before .before .before in
+    let turn = inside .before in
+    let a = turn .before .before .before .args in
+    let shown = strandBase (a .reference .now) (a .forward) in (
       omega arith,
-      letter-written (a .reference .now) (a .forward) (a .leftmost) (a .bases) (c .letter-of-code .result) (c .before .before .before .before .loop .inv .1)
-          (omega arith) (c .before .before .before .loop-test .taken)
-          (c .letter-of-code .ensures ∙ ap letterOfCode (c .before .strand-base .ensures ∙ ap (strandBase (a .reference .now) (a .forward)) (c .before .before .stretch-index .ensures))),
+      letter-written (a .reference .now) (a .forward) (a .leftmost) (a .bases)
+          (c .letter-of-code .result) (turn .loop .inv .1) (omega arith) (inside .loop-test .taken)
+          (c .letter-of-code .ensures
+          ∙ ap letterOfCode
+          (c .before .strand-base .ensures
+          ∙ ap shown (c .before .before .stretch-index .ensures))),
     )
 
 same-length : tie.Need-same-length Inv-loop μ-loop
@@ -60,7 +75,8 @@ same-length c = c .before .loop .inv .1 .sized
 returns : tie.Need-returns Inv-loop μ-loop
 returns c =
     let a = c .before .before .before .before .args in
-    written-all (a .reference .now) (a .forward) (a .leftmost) (a .bases) (c .before .loop .inv .1) (omega arith) (omega arith)
+    written-all (a .reference .now) (a .forward) (a .leftmost) (a .bases) (c .before .loop .inv .1)
+    (omega arith) (omega arith)
 
 pub put-letters-spec : {M : Type 1} → statement M
 put-letters-spec =

@@ -1,4 +1,5 @@
--- `reference::put_pairs_forward` meets its contract: the invariant: the letters of the pairs passed stand. The measure is what is left. Assumes nothing.
+-- `reference::put_pairs_forward` meets its contract. The invariant: the letters of the pairs passed
+-- stand. The measure is what is left. Assumes nothing.
 use Prim.Native.Nat.{_≤_, _+_, _-_, _*_}
 use native.Mathlib.Omega.{arith}
 use mathlib.Core.Bool.{true}
@@ -17,8 +18,10 @@ abbrev μ-loop : tie.MeasureT-loop
 
 loop-holds : tie.Need-loop-holds Inv-loop μ-loop
 loop-holds c =
-    let a = c .before .before .args in
-    (omega arith, written-none (a .reference .now) true (4 * a .first) (8 * a .pairs) (a .out .now) (a .at))
+    let a = c .before .before .args in (
+      omega arith,
+      written-none (a .reference .now) true (4 * a .first) (8 * a .pairs) (a .out .now) (a .at),
+    )
 
 mul-put-u32 : tie.Need-mul-put-u32 Inv-loop μ-loop
 mul-put-u32 c = search needs
@@ -45,7 +48,9 @@ element-copy-out-put-u32 : tie.Need-element-copy-out-put-u32 Inv-loop μ-loop
 element-copy-out-put-u32 c = search needs
 
 put-u32-requires : tie.Need-put-u32-requires Inv-loop μ-loop
-put-u32-requires c κs = omega (arith, c .before .before .before .before .before .loop .inv .1 .sized)
+put-u32-requires c κs =
+    let turn = c .before .before .before .before .before in
+    omega (arith, turn .loop .inv .1 .sized)
 
 mul-put-u32-3 : tie.Need-mul-put-u32-3 Inv-loop μ-loop
 mul-put-u32-3 c = search needs
@@ -78,7 +83,10 @@ element-copy-out-put-u32-2 : tie.Need-element-copy-out-put-u32-2 Inv-loop μ-loo
 element-copy-out-put-u32-2 c = search needs
 
 put-u32-requires-2 : tie.Need-put-u32-requires-2 Inv-loop μ-loop
-put-u32-requires-2 c κs = omega (arith, c .before .before .before .before .before .before .before .before .before .before .before .before .loop .inv .1 .sized)
+put-u32-requires-2 c κs =
+    let first = c .before .before .before .before .before .before in
+    let turn = first .before .before .before .before .before .before in
+    omega (arith, turn .loop .inv .1 .sized)
 
 add-k : tie.Need-add-k Inv-loop μ-loop
 add-k c = search needs
@@ -88,17 +96,23 @@ loop-less c = search needs
 
 loop-again : tie.Need-loop-again Inv-loop μ-loop
 loop-again c =
-    let a = c .before .before .before .before .before .before .before .before .before .before .before .before .before .before .before .before .before .before .args in
-    let l = c .before .before .before .before .before .before .before .before .before .before .before .before .before .before .before .loop in
-    let x = c .before .before .before .before .before .before .before .before .before .before .before .size8 in
-    let y = c .before .before .before .before .size82 in
-    let lent = c .before .before .before .before .before .before .before .before .before .before .before .before .before .before .before .before .before .before .pre .2 in
-    let inside = c .before .before .before .before .before .before .before .before .before .before .before .before .before .before .loop-test .taken in (
+    let second = c .before .before in
+    let y = second .before .before .size82 in
+    let first = second .before .before .before .before .before .before .before in
+    let x = first .before .before .size8 in
+    let turn = first .before .before .before .before .before .before in
+    let l = turn .loop in
+    let start = turn .before .before .before in
+    let a = start .args in
+    let inside = first .before .before .before .before .before .loop-test .taken in (
       omega arith,
-      pair-written (a .reference .now) true (4 * a .first) (8 * a .pairs) (a .table .now) (c .before .before .before .before .before .before .before .before .before .put-u32 .last .0)
-          (c .before .before .put-u322 .last .0) (a .at + 8 * l .k) (l .k) (a .first + 2 * c .before .before .before .before .before .before .before .before .before .before .before .before .before .before .before .loop .k) (a .first + 2 * c .before .before .before .before .before .before .before .before .before .before .before .before .before .before .before .loop .k + 1) (x .result) (y .result) lent (l .inv .1)
-          (omega arith) (omega arith) (c .before .before .before .before .before .before .before .before .before .put-u32 .ensures) (c .before .before .put-u322 .ensures) refl (x .ensures .0) (x .ensures .1)
-          (y .ensures .0) (y .ensures .1) (omega arith) (omega arith),
+      pair-written (a .reference .now) true (4 * a .first) (8 * a .pairs) (a .table .now)
+          (first .put-u32 .last .0) (second .put-u322 .last .0) (a .at + 8 * l .k) (l .k)
+          (a .first + 2 * l .k) (a .first + 2 * l .k + 1) (x .result) (y .result)
+          (start .pre .2) (l .inv .1) (omega arith) (omega arith)
+          (first .put-u32 .ensures) (second .put-u322 .ensures) refl
+          (x .ensures .0) (x .ensures .1) (y .ensures .0) (y .ensures .1)
+          (omega arith) (omega arith),
     )
 
 same-length : tie.Need-same-length Inv-loop μ-loop
@@ -107,7 +121,8 @@ same-length c = c .before .loop .inv .1 .sized
 returns : tie.Need-returns Inv-loop μ-loop
 returns c =
     let a = c .before .before .before .before .args in
-    written-all (a .reference .now) true (4 * a .first) (8 * a .pairs) (c .before .loop .inv .1) (omega arith) (omega arith)
+    written-all (a .reference .now) true (4 * a .first) (8 * a .pairs)
+    (c .before .loop .inv .1) (omega arith) (omega arith)
 
 pub put-pairs-forward-spec : {M : Type 1} → statement M
 put-pairs-forward-spec =

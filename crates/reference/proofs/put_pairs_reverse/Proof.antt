@@ -1,5 +1,5 @@
--- `reference::put_pairs_reverse` meets its contract: the invariant: the letters of the pairs passed stand, and `byte` is where the
--- next ends. The measure is what is left. Assumes nothing.
+-- `reference::put_pairs_reverse` meets its contract. The invariant: the letters of the pairs passed
+-- stand, and `byte` is where the next ends. The measure is what is left. Assumes nothing.
 use Prim.Native.Nat.{_≤_, _+_, _-_, _*_}
 use native.Mathlib.Omega.{arith}
 use mathlib.Core.Bool.{false}
@@ -20,7 +20,11 @@ abbrev μ-loop : tie.MeasureT-loop
 loop-holds : tie.Need-loop-holds Inv-loop μ-loop
 loop-holds c =
     let a = c .before .before .args in
-    (omega arith, omega arith, written-none (a .reference .now) false (4 * a .end - 8 * a .pairs) (8 * a .pairs) (a .out .now) (a .at))
+    let leftmost = 4 * a .end - 8 * a .pairs in (
+      omega arith,
+      omega arith,
+      written-none (a .reference .now) false leftmost (8 * a .pairs) (a .out .now) (a .at),
+    )
 
 mul-put-u32 : tie.Need-mul-put-u32 Inv-loop μ-loop
 mul-put-u32 c = search needs
@@ -44,7 +48,9 @@ element-copy-out-put-u32 : tie.Need-element-copy-out-put-u32 Inv-loop μ-loop
 element-copy-out-put-u32 c = search needs
 
 put-u32-requires : tie.Need-put-u32-requires Inv-loop μ-loop
-put-u32-requires c κs = omega (arith, c .before .before .before .before .before .loop .inv .2 .sized)
+put-u32-requires c κs =
+    let turn = c .before .before .before .before .before in
+    omega (arith, turn .loop .inv .2 .sized)
 
 mul-put-u32-3 : tie.Need-mul-put-u32-3 Inv-loop μ-loop
 mul-put-u32-3 c = search needs
@@ -71,7 +77,10 @@ element-copy-out-put-u32-2 : tie.Need-element-copy-out-put-u32-2 Inv-loop μ-loo
 element-copy-out-put-u32-2 c = search needs
 
 put-u32-requires-2 : tie.Need-put-u32-requires-2 Inv-loop μ-loop
-put-u32-requires-2 c κs = omega (arith, c .before .before .before .before .before .before .before .before .before .before .before .before .loop .inv .2 .sized)
+put-u32-requires-2 c κs =
+    let first = c .before .before .before .before .before .before in
+    let turn = first .before .before .before .before .before .before in
+    omega (arith, turn .loop .inv .2 .sized)
 
 sub-byte : tie.Need-sub-byte Inv-loop μ-loop
 sub-byte c = search needs
@@ -84,18 +93,24 @@ loop-less c = search needs
 
 loop-again : tie.Need-loop-again Inv-loop μ-loop
 loop-again c =
-    let a = c .before .before .before .before .before .before .before .before .before .before .before .before .before .before .before .before .before .before .args in
-    let l = c .before .before .before .before .before .before .before .before .before .before .before .before .before .before .before .loop in
-    let x = c .before .before .before .before .before .before .before .before .before .before .before .size8 in
-    let y = c .before .before .before .before .size82 in
-    let lent = c .before .before .before .before .before .before .before .before .before .before .before .before .before .before .before .before .before .before .pre .3 in
-    let inside = c .before .before .before .before .before .before .before .before .before .before .before .before .before .before .loop-test .taken in (
+    let second = c .before .before in
+    let y = second .before .before .size82 in
+    let first = second .before .before .before .before .before .before .before in
+    let x = first .before .before .size8 in
+    let turn = first .before .before .before .before .before .before in
+    let l = turn .loop in
+    let start = turn .before .before .before in
+    let a = start .args in
+    let inside = first .before .before .before .before .before .loop-test .taken in (
       omega arith,
       omega arith,
-      pair-written (a .reference .now) false (4 * a .end - 8 * a .pairs) (8 * a .pairs) (a .table .now) (c .before .before .before .before .before .before .before .before .before .put-u32 .last .0)
-          (c .before .before .put-u322 .last .0) (a .at + 8 * l .k) (l .k) (l .byte - 1) (l .byte - 2) (x .result) (y .result) lent (l .inv .2)
-          (omega arith) (omega arith) (c .before .before .before .before .before .before .before .before .before .put-u32 .ensures) (c .before .before .put-u322 .ensures) refl (x .ensures .0) (x .ensures .1)
-          (y .ensures .0) (y .ensures .1) (omega arith) (omega arith),
+      pair-written (a .reference .now) false (4 * a .end - 8 * a .pairs) (8 * a .pairs)
+          (a .table .now) (first .put-u32 .last .0) (second .put-u322 .last .0) (a .at + 8 * l .k) (l .k)
+          (l .byte - 1) (l .byte - 2) (x .result) (y .result)
+          (start .pre .3) (l .inv .2) (omega arith) (omega arith)
+          (first .put-u32 .ensures) (second .put-u322 .ensures) refl
+          (x .ensures .0) (x .ensures .1) (y .ensures .0) (y .ensures .1)
+          (omega arith) (omega arith),
     )
 
 same-length : tie.Need-same-length Inv-loop μ-loop
@@ -104,7 +119,8 @@ same-length c = c .before .loop .inv .2 .sized
 returns : tie.Need-returns Inv-loop μ-loop
 returns c =
     let a = c .before .before .before .before .args in
-    written-all (a .reference .now) false (4 * a .end - 8 * a .pairs) (8 * a .pairs) (c .before .loop .inv .2) (omega arith) (omega arith)
+    written-all (a .reference .now) false (4 * a .end - 8 * a .pairs) (8 * a .pairs)
+    (c .before .loop .inv .2) (omega arith) (omega arith)
 
 pub put-pairs-reverse-spec : {M : Type 1} → statement M
 put-pairs-reverse-spec =

@@ -10,7 +10,9 @@ same-length : tie.Need-same-length
 same-length c = search needs
 
 returns : tie.Need-returns
-returns c = simp (c .before .before .before .before .if1 .taken) (c .before .before .put-stretch-forward .ensures)
+returns c =
+    let written = c .before .before in
+    simp (written .before .before .if1 .taken) (written .put-stretch-forward .ensures)
 
 put-stretch-reverse-requires : tie.Need-put-stretch-reverse-requires
 put-stretch-reverse-requires c κs = search needs
@@ -19,7 +21,9 @@ same-length-2 : tie.Need-same-length-2
 same-length-2 c = search needs
 
 returns-2 : tie.Need-returns-2
-returns-2 c = simp (c .before .before .before .before .if1 .left) (c .before .before .put-stretch-reverse .ensures)
+returns-2 c =
+    let written = c .before .before in
+    simp (written .before .before .if1 .left) (written .put-stretch-reverse .ensures)
 
 pub put-stretch-spec : {M : Type 1} → statement M
 put-stretch-spec =

@@ -57,21 +57,26 @@ same-length-2 c = search needs
 
 returns-2 : tie.Need-returns-2
 returns-2 c =
-    let start = c .before .before .before .before .before .before .before .before .before .before .before .before .before .before .before .before .before .before .before in
+    let last = c .before .before in
+    let tail = last .before .before .before .before in
+    let middle = tail .before .before .before .before in
+    let first = middle .before .before .before .before in
+    let long = first .before .before in
+    let start = long .before .before .before in
     let a = start .args in
-    let fits = start .pre .0 in
     let room = start .pre .1 in
     let lent = start .pre .2 in
-    let some = c .before .before .before .before .before .before .before .before .before .before .before .before .before .before .before .before .if1 .left in
+    let some = long .if1 .left in
+    let fits = start .pre .0 in
     let head : ℕ = (a .leftmost + a .bases) % 4 in
-    ends-and-bytes (a .reference .now) false (a .leftmost) (a .bases) (a .out .now) _ _ _ _ (a .at) head
-    (8 * ((a .bases - head) / 8)) _ _ _ _ _ _ _ room some
-    (c .before .before .before .before .before .before .before .before .before .before .before .before .before .before .put-four .ensures false lent)
-    (c .before .before .before .before .before .before .before .before .before .before .put-pairs-reverse .ensures)
-    (c .before .before .before .before .before .before .put-four2 .ensures false lent)
-    (c .before .before .put-four3 .ensures false lent)
-    (omega arith) (omega arith) (omega arith) (omega arith) (omega arith) (omega arith) (omega arith) (omega arith)
-    (omega arith) (omega arith)
+    ends-and-bytes (a .reference .now) false (a .leftmost) (a .bases) (a .out .now) _ _ _ _ (a .at)
+    head (8 * ((a .bases - head) / 8)) _ _ _ _ _ _ _ room some
+    (first .put-four .ensures false lent)
+    (middle .put-pairs-reverse .ensures)
+    (tail .put-four2 .ensures false lent)
+    (last .put-four3 .ensures false lent)
+    (omega arith) (omega arith) (omega arith) (omega arith) (omega arith) (omega arith)
+    (omega arith) (omega arith) (omega arith) (omega arith)
 
 pub put-stretch-reverse-spec : {M : Type 1} → statement M
 put-stretch-reverse-spec =

@@ -1,4 +1,5 @@
--- `reference::reference_size_wrong` meets its contract: the tests of the definition, in its order. Assumes nothing.
+-- `reference::reference_size_wrong` meets its contract: the tests of the definition, in its order.
+-- Assumes nothing.
 use borrow.Author.Needs.{needs}
 use borrow.Author.Tests.{lt-ltb, le-ltb}
 use Rattle.dna.specs.Reference.{referenceSizeWrong}

@@ -15,11 +15,19 @@ unfolding strandBase
 returns c = simp (c .if1 .taken) (c .before .base-at .ensures)
 
 complement-of-requires : tie.Need-complement-of-requires
-complement-of-requires c κs = omega (arith, c .before .base-at .ensures, referenceBase-below (c .before .before .before .args .reference .now) (c .before .before .before .args .index))
+complement-of-requires c κs =
+    let a = c .before .before .before .args in
+    omega (
+      arith,
+      c .before .base-at .ensures,
+      referenceBase-below (a .reference .now) (a .index),
+    )
 
 returns-2 : tie.Need-returns-2
 unfolding strandBase
-returns-2 c = simp (c .before .if1 .left) (c .complement-of .ensures ∙ ap complement (c .before .before .base-at .ensures))
+returns-2 c =
+    simp (c .before .if1 .left)
+    (c .complement-of .ensures ∙ ap complement (c .before .before .base-at .ensures))
 
 pub strand-base-spec : {M : Type 1} → statement M
 strand-base-spec = tie.close (tie.spec base-at-requires returns complement-of-requires returns-2)
