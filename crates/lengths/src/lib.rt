@@ -41,17 +41,17 @@ pub const WORD_ESCAPE: u32 = 32768;
 
 // Where a walk over the lengths stands.
 pub struct SizeCursor {
-    // Flag 0x1: each length is the one before, and the section holds none.
-    pub fixed: bool,
     // The next byte of the section.
     pub at: usize,
-    // How many reads of the group are behind; 0 or 8 where a group begins.
-    pub place: u8,
     // The length before; 0 before the first read.
     pub previous: u32,
+    // How many reads of the group are behind; 0 or 8 where a group begins.
+    pub place: u8,
     // The group's same bits and byte-size bits that are left, the next one highest.
     pub same: u8,
     pub sizes: u8,
+    // Flag 0x1: each length is the one before, and the section holds none.
+    pub fixed: bool,
 }
 
 // A cursor that holds the flag bytes of its group.
