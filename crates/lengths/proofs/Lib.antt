@@ -8,5 +8,6 @@ pub mod NextLaws
 pub mod FixedLaws
 pub mod GivenLaws
 pub mod FormLaws
+pub mod FlagLaws
 pub mod WritingLaws
 pub mod EqualLaws

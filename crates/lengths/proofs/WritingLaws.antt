@@ -3,21 +3,24 @@ use mathlib.Core.Path.{_≡_, refl, sym, ap, ap₂, _∙_}
 use Prim.Native.Nat.{ℕ, zero, suc, _+_, _-_, _*_, _/_, _≤_, _<_, min}
 use native.Mathlib.Numerals.{add-one}
 use native.Mathlib.Omega.{arith}
-use mathlib.Core.Bool.{true, false}
-use mathlib.Core.List.{List, [], _∷_, _++_, flatMap, append-nil}
-use lib.ListN.{length, getD, take, drop, set, length-take, length-drop}
-use lib.Seq.{drop-cons, drop-drop}
+use mathlib.Core.List.{List, [], _∷_, _++_, flatMap, append-nil, append-assoc}
+use lib.ListN.{length, getD, take, drop, set, length-take, length-drop, length-append}
+use lib.Seq.{drop-cons, drop-drop, drop-at, take-take, take-append-le, length-take-le}
 use Rattle.base.specs.Lists.{part, total}
 use Rattle.base.specs.Groups.{groupCount}
 use Rattle.base.specs.Numbers.{leBytes}
 use Rattle.base.specs.Paste.{pasted}
 use Rattle.base.proofs.NumberLaws.{length-leBytes}
-use Rattle.base.proofs.PasteLaws.{pasted-nil, set-pasted, pasted-snoc, pasted-then}
+use Rattle.base.proofs.PasteLaws.{pasted-nil, set-pasted}
 use Rattle.base.proofs.PastingLaws.{Pasting, pasting-room, pasting-turn, pasting-end}
 use Rattle.dna.specs.Varint16.{varint16Bytes}
 use Rattle.dna.specs.Sizes.{
   StoredSize,
+  same,
+  inByte,
   inWords,
+  isSame,
+  isInByte,
   storedBytes,
   flagByte,
   sizeGroupBytes,
@@ -32,10 +35,15 @@ use Rattle.dna.proofs.SizeBytesLaws.{
   storedTotal,
   length-sizeSection,
 }
-use Rattle.lengths.specs.declared.write.SizeForm.{SizeForm}
-use Rattle.lengths.specs.declared.write.SizeForm.the-variants as forms
-use Rattle.lengths.specs.Form.{storedOf, formOf, formBytes, flagTest}
-use Rattle.lengths.proofs.FormLaws.{length-storedOf, bytes-form, part-at}
+use Rattle.lengths.specs.declared.write.GroupWriter.{GroupWriter}
+use Rattle.lengths.specs.Form.{storedOf, storedAfter, flagBits, writerAfter}
+use Rattle.lengths.proofs.FormLaws.{
+  length-storedOf,
+  part-at,
+  after-same,
+  after-byte,
+  after-words,
+}
 
 -- A list that is used up.
 pub drop-all {ℓ} : {A : Type ℓ} (k : ℕ) (list : List A) → length list ≤ k → drop k list ≡ []
@@ -81,9 +89,9 @@ length-group ends from =
     ∙ ap (min 8)
     (length-drop from (storedOf ends) ∙ ap (λ (n : ℕ). n - from) (length-storedOf ends))
 
-module _ (ends : List ℕ) (from k : ℕ) (inside : k < min 8 (length ends - from)) (form : SizeForm)
-    (is : form ≡ formOf (getD (storedOf ends) (from + k) (inWords 0))) where
-  group-split : groupLeft ends from k ≡ formBytes form ++ groupLeft ends from (k + 1)
+module _ (ends : List ℕ) (from k : ℕ) (inside : k < min 8 (length ends - from))
+    (stored : StoredSize) (is : stored ≡ getD (storedOf ends) (from + k) (inWords 0)) where
+  group-split : groupLeft ends from k ≡ storedBytes stored ++ groupLeft ends from (k + 1)
   unfolding flatMap
   group-split =
       let group : List StoredSize = part (storedOf ends) from 8 in
@@ -91,21 +99,19 @@ module _ (ends : List ℕ) (from k : ℕ) (inside : k < min 8 (length ends - fro
       ap (flatMap storedBytes)
       (drop-cons group k (inWords 0) (omega (arith, length-group ends from)))
       ∙ ap₂ (λ (bytes : List ℕ) (j : ℕ). bytes ++ flatMap storedBytes (drop j group))
-      (ap storedBytes (part-at ends from k small)
-      ∙ sym (bytes-form (getD (storedOf ends) (from + k) (inWords 0)))
-      ∙ ap formBytes (sym is))
+      (ap storedBytes (part-at ends from k small ∙ sym is))
       (sym (add-one k))
 
   module _ {goal : List ℕ} {end : ℕ} {out : List ℕ} {place : ℕ}
       (writing : Pasting goal end out place (groupLeft ends from k)) where
-    pub form-room : place + length (formBytes form) ≤ length out
-    form-room = pasting-room writing (formBytes form) (groupLeft ends from (k + 1)) group-split
+    pub size-room : place + length (storedBytes stored) ≤ length out
+    size-room = pasting-room writing (storedBytes stored) (groupLeft ends from (k + 1)) group-split
 
-    pub form-turn : (out′ : List ℕ) (place′ : ℕ) → out′ ≡ pasted out place (formBytes form)
-        → place′ ≡ place + length (formBytes form) → Pasting goal end out′ place′
-        (groupLeft ends from (k + 1))
-    form-turn out′ place′ written there =
-        pasting-turn writing (formBytes form)
+    pub size-turn : (out′ : List ℕ) (place′ : ℕ) → out′ ≡ pasted out place (storedBytes stored)
+        → place′ ≡ place + length (storedBytes stored)
+        → Pasting goal end out′ place′ (groupLeft ends from (k + 1))
+    size-turn out′ place′ written there =
+        pasting-turn writing (storedBytes stored)
         (groupLeft ends from (k + 1)) out′ place′ group-split written there
 
 pub group-end : (ends : List ℕ) (from k : ℕ) {goal : List ℕ} {end : ℕ} {out : List ℕ} {place : ℕ}
@@ -119,20 +125,29 @@ group-end ends from k all writing =
 
 -- ---- A group
 
--- Two flag bytes, then what follows them.
-pub group-pasted : (buffer out : List ℕ) (at first second : ℕ) (rest : List ℕ)
-    → at + (2 + length rest) ≤ length buffer
-    → out ≡ pasted (set (set buffer at first) (at + 1) second) (at + 2) rest
-    → out ≡ pasted buffer at (first ∷ second ∷ rest)
-group-pasted buffer out at first second rest fits written =
-    let one : set buffer at first ≡ pasted buffer at (first ∷ []) = set-pasted buffer at first
-    (omega arith) in
-    let two : set (set buffer at first) (at + 1) second ≡ pasted buffer at (first ∷ second ∷ []) =
-    pasted-snoc buffer (set buffer at first) at (at + 1) (first ∷ []) second
-    (omega arith) refl one in
-    pasted-then buffer (set (set buffer at first) (at + 1) second) out at (at + 2)
-    (first ∷ second ∷ []) rest (omega arith)
-    refl two written
+-- A front written before what follows it is there already.
+pasted-front : (buffer : List ℕ) (at : ℕ) (front rest : List ℕ)
+    → at + length front + length rest ≤ length buffer
+    → pasted (pasted buffer (at + length front) rest) at front ≡ pasted buffer at (front ++ rest)
+unfolding pasted
+pasted-front buffer at front rest fits =
+    let next : ℕ = at + length front in
+    let back : List ℕ = drop (next + length rest) buffer in
+    let size : length (take next buffer) ≡ next = length-take-le next buffer (omega arith) in
+    let whole : take next buffer ++ rest ++ back ≡ take next buffer ++ (rest ++ back) =
+    append-assoc (take next buffer) rest back in
+    let before : take at (take next buffer ++ rest ++ back) ≡ take at buffer =
+    ap (take at) whole
+    ∙ take-append-le at (take next buffer) (rest ++ back) (omega (arith, size))
+    ∙ take-take at next buffer (omega arith) in
+    let after : drop next (take next buffer ++ rest ++ back) ≡ rest ++ back =
+    ap (drop next) whole ∙ drop-at (take next buffer) (rest ++ back) next size in
+    let n : next + length rest ≡ at + length (front ++ rest) =
+    omega (arith, length-append front rest) in
+    ap₂ (λ (l r : List ℕ). l ++ front ++ r) before after
+    ∙ sym (append-assoc (take at buffer ++ front) rest back)
+    ∙ ap (λ (l : List ℕ). l ++ back) (append-assoc (take at buffer) front rest)
+    ∙ ap (λ (m : ℕ). take at buffer ++ (front ++ rest) ++ drop m buffer) n
 
 -- ---- The section
 
@@ -189,64 +204,22 @@ count-start ends sum is =
     ∙ omega arith in
     omega (arith, length-sizeSection (storedOf ends))
 
-pub count-turn : (ends : List ℕ) (i : ℕ) (form : SizeForm) → i < length ends
-    → form ≡ formOf (getD (storedOf ends) i (inWords 0))
-    → storedTotal (drop i (storedOf ends)) ≡ length (formBytes form) + storedTotal
-    (drop (i + 1) (storedOf ends))
+pub count-turn : (ends : List ℕ) (i : ℕ) (stored : StoredSize) → i < length ends
+    → stored ≡ getD (storedOf ends) i (inWords 0)
+    → storedTotal (drop i (storedOf ends))
+    ≡ length (storedBytes stored) + storedTotal (drop (i + 1) (storedOf ends))
 unfolding total
-count-turn ends i form inside is =
-    let stored : List StoredSize = storedOf ends in
-    ap storedTotal (drop-cons stored i (inWords 0) (omega (arith, length-storedOf ends)))
-    ∙ ap₂ (λ (n j : ℕ). n + storedTotal (drop j stored))
-    (ap length (sym (bytes-form (getD stored i (inWords 0))) ∙ ap formBytes (sym is)))
+count-turn ends i stored inside is =
+    let all : List StoredSize = storedOf ends in
+    ap storedTotal (drop-cons all i (inWords 0) (omega (arith, length-storedOf ends)))
+    ∙ ap₂ (λ (n j : ℕ). n + storedTotal (drop j all))
+    (ap (λ (s : StoredSize). length (storedBytes s)) (sym is))
     (sym (add-one i))
 
 pub count-end : (ends : List ℕ) (i : ℕ) → length ends ≤ i → storedTotal (drop i (storedOf ends)) ≡ 0
 unfolding total
 count-end ends i all =
     ap storedTotal (drop-all i (storedOf ends) (omega (arith, length-storedOf ends)))
-
--- ---- One form
-
-module _ (form : SizeForm) (buffer : List ℕ) (at : ℕ) where
-  -- Nothing is stored.
-  pub write-same : form ≡ forms.Same → (buffer ≡ pasted buffer at (formBytes form)) ×
-      (at ≡ at + length (formBytes form))
-  unfolding formBytes
-  write-same is =
-      let none : formBytes form ≡ [] = ap formBytes is in
-      (sym (pasted-nil buffer at) ∙ ap (pasted buffer at) (sym none), omega (arith, ap length none))
-
-  module _ (size : ℕ) (is : form ≡ forms.InByte size)
-      (room : at + length (formBytes form) ≤ length buffer) where
-    byte-form : formBytes form ≡ size ∷ []
-    unfolding formBytes
-    byte-form = ap formBytes is
-
-    pub byte-room : at < length buffer
-    byte-room = omega (arith, ap length byte-form)
-
-    -- One byte.
-    pub write-byte : (set buffer at size ≡ pasted buffer at (formBytes form)) ×
-        (at + 1 ≡ at + length (formBytes form))
-    write-byte = (
-      set-pasted buffer at size byte-room ∙ ap (pasted buffer at) (sym byte-form),
-      omega
-          (arith, ap length byte-form),
-    )
-
-  -- Words.
-  pub words-form : (size : ℕ) → form ≡ forms.InWords size → varint16Bytes size ≡ formBytes form
-  unfolding formBytes
-  words-form size is = sym (ap formBytes is)
-
-  pub write-words : (size : ℕ) (out : List ℕ) (place : ℕ) → form ≡ forms.InWords size
-      → out ≡ pasted buffer at (varint16Bytes size) → place ≡ at + length (varint16Bytes size)
-      → (out ≡ pasted buffer at (formBytes form)) × (place ≡ at + length (formBytes form))
-  write-words size out place is written there = (
-    written ∙ ap (pasted buffer at) (words-form size is),
-    there ∙ ap (λ (bytes : List ℕ). at + length bytes) (words-form size is),
-  )
 
 -- ---- A whole group
 
@@ -256,17 +229,84 @@ module _ (group : List StoredSize) (buffer : List ℕ) (at : ℕ)
   unfolding sizeGroupBytes
   group-room = omega (arith, room)
 
-  pub write-group : (out : List ℕ) (place first second : ℕ) → first ≡ flagByte (flagTest true) group
-      → second ≡ flagByte (flagTest false) group
-      → out ≡ pasted (set (set buffer at first) (at + 1) second) (at + 2)
-      (flatMap storedBytes group)
+  -- The sizes, then the two flag bytes before them.
+  pub write-group : (between out : List ℕ) (place flags : ℕ)
+      → between ≡ pasted buffer (at + 2) (flatMap storedBytes group)
       → place ≡ at + 2 + length (flatMap storedBytes group)
+      → leBytes 2 flags ≡ flagByte isSame group ∷ flagByte isInByte group ∷ []
+      → out ≡ pasted between at (leBytes 2 flags)
       → (out ≡ pasted buffer at (sizeGroupBytes group)) ×
       (place ≡ at + length (sizeGroupBytes group))
-  unfolding sizeGroupBytes flagTest
-  write-group out place first second one two written there = (
-    group-pasted buffer out at first second (flatMap storedBytes group)
-        (omega (arith, room)) written
-        ∙ ap₂ (λ (x y : ℕ). pasted buffer at (x ∷ y ∷ flatMap storedBytes group)) one two,
+  unfolding sizeGroupBytes
+  write-group between out place flags sizes there bytes written = (
+    written
+        ∙ ap₂ (λ (b f : List ℕ). pasted b at f) sizes bytes
+        ∙ pasted-front buffer at (flagByte isSame group ∷ flagByte isInByte group ∷ [])
+        (flatMap storedBytes group) (omega (arith, room)),
     omega arith,
   )
+
+-- ---- One size
+
+module _ (previous size : ℕ) (writer : GroupWriter) (buffer : List ℕ) where
+  -- What is known of the stored size is known of what is written.
+  written-as : (stored : StoredSize) (out : List ℕ) (place flags : ℕ)
+      → storedAfter previous size ≡ stored → out ≡ pasted buffer (writer .place) (storedBytes stored)
+      → place ≡ writer .place + length (storedBytes stored)
+      → flags ≡ writer .flags * 2 + flagBits stored
+      → (out ≡ pasted buffer (writer .place) (storedBytes (storedAfter previous size)))
+      × (record { place = place; flags = flags } ≡ writerAfter writer (storedAfter previous size))
+  unfolding writerAfter
+  written-as stored out place flags is written there bits = (
+    written ∙ ap (λ (s : StoredSize). pasted buffer (writer .place) (storedBytes s)) (sym is),
+    (λ i. record { place = there i; flags = bits i })
+        ∙ ap (writerAfter writer) (sym is),
+  )
+
+  pub write-same : size ≡ previous
+      → (buffer ≡ pasted buffer (writer .place) (storedBytes (storedAfter previous size)))
+      × (record { place = writer .place; flags = writer .flags * 2 + 1 }
+      ≡ writerAfter writer (storedAfter previous size))
+  unfolding storedBytes flagBits isSame isInByte
+  write-same e =
+      written-as same buffer (writer .place) (writer .flags * 2 + 1) (after-same previous size e)
+      (sym (pasted-nil buffer (writer .place))) (omega arith) refl
+
+  module _ (other : size ≡ previous → ⊥) where
+    pub write-byte : size < 256 → writer .place < length buffer
+        → (set buffer (writer .place) size
+        ≡ pasted buffer (writer .place) (storedBytes (storedAfter previous size)))
+        × (record { place = writer .place + 1; flags = writer .flags * 2 + 256 }
+        ≡ writerAfter writer (storedAfter previous size))
+    unfolding storedBytes flagBits isSame isInByte
+    write-byte small room =
+        written-as (inByte size) (set buffer (writer .place) size) (writer .place + 1)
+        (writer .flags * 2 + 256) (after-byte previous size other small)
+        (set-pasted buffer (writer .place) size room) refl refl
+
+    pub words-bytes : 256 ≤ size
+        → varint16Bytes size ≡ storedBytes (storedAfter previous size)
+    unfolding storedBytes
+    words-bytes large = sym (ap storedBytes (after-words previous size other large))
+
+    pub write-words : 256 ≤ size → (out : List ℕ) (place : ℕ)
+        → out ≡ pasted buffer (writer .place) (varint16Bytes size)
+        → place ≡ writer .place + length (varint16Bytes size)
+        → (out ≡ pasted buffer (writer .place) (storedBytes (storedAfter previous size)))
+        × (record { place = place; flags = writer .flags * 2 }
+        ≡ writerAfter writer (storedAfter previous size))
+    unfolding storedBytes flagBits isSame isInByte
+    write-words large out place written there =
+        written-as (inWords size) out place (writer .flags * 2)
+        (after-words previous size other large) written there (omega arith)
+
+-- The two numbers of a writer after a size.
+pub place-after : (writer next : GroupWriter) (stored : StoredSize) → next ≡ writerAfter writer stored
+    → next .place ≡ writer .place + length (storedBytes stored)
+unfolding writerAfter
+place-after writer next stored is = ap (λ (w : GroupWriter). w .place) is
+
+pub flags-after : (writer next : GroupWriter) (stored : StoredSize) → next ≡ writerAfter writer stored
+    → next .flags ≡ writer .flags * 2 + flagBits stored
+unfolding writerAfter
+flags-after writer next stored is = ap (λ (w : GroupWriter). w .flags) is

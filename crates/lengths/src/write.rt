@@ -4,33 +4,32 @@
 // bytes.
 use super::WORD_ESCAPE;
 ghost use mathlib.Core.Path.{_≡_};
-ghost use mathlib.Core.Bool.{cond};
 ghost use Prim.Native.Nat.{_+_, _-_, _≤_, _<_, min};
-ghost use mathlib.Core.List.{flatMap};
 ghost use lib.ListN.{length, getD};
 ghost use Rattle.base.specs.Lists.{part, stepsFrom};
 ghost use Rattle.base.specs.Paste.{pasted};
 ghost use Rattle.dna.specs.Varint16.{varint16Bytes};
-ghost use Rattle.dna.specs.Sizes.{
-  inWords,
-  isSame,
-  storedBytes,
-  flagByte,
-  sizeGroupBytes,
-  sizeSectionBytes,
-};
+ghost use Rattle.dna.specs.Sizes.{storedBytes, sizeGroupBytes, sizeSectionBytes};
 ghost use Rattle.format.specs.HeaderFaults.{maxReads};
 ghost use Rattle.format.specs.FixedRule.{allEqual};
-ghost use Rattle.lengths.specs.Form.{storedOf, formOf, formBytes, flagTest, formFlag};
+ghost use Rattle.lengths.specs.Form.{
+  storedOf,
+  storedAfter,
+  endBefore,
+  lengthBefore,
+  writerAfter,
+};
 
-// How a length is stored.
-pub enum SizeForm {
-    // The length before, nothing stored.
-    Same,
-    // One byte.
-    InByte(u8),
-    // Words of 16 bits.
-    InWords(u32),
+// What stands for the length before the first read: no length is as large.
+const NO_LENGTH: u64 = 4294967296;
+
+// Where the writing of a group stands.
+struct GroupWriter {
+    // The byte after what is written.
+    place: usize,
+    // The flag bits of the reads that are written, the last read lowest: same bits in the lower
+    // byte, byte-size bits in the upper one.
+    flags: u16,
 }
 
 // ---- The section
@@ -41,9 +40,15 @@ pub fn sizes_length(ends: &[u32]) -> usize
     ensures { λ r. ⌜ r ≡ length (sizeSectionBytes (storedOf (now (ends .entry)))) ⌝ }
 {
     let mut sum = (ends.len() + 7) / 8 * 2;
+    let mut before: u32 = 0;
+    let mut previous: u64 = NO_LENGTH;
     let mut i: usize = 0;
     while i < ends.len() {
-        sum += form_length(form_at(ends, i));
+        let end = ends[i];
+        let size = difference(end, before);
+        sum += stored_length(size, previous);
+        before = end;
+        previous = integers::wide64(size);
         i += 1;
     }
     sum
@@ -66,7 +71,7 @@ pub fn put_sizes(ends: &[u32], out: &mut [u8], at: usize) -> usize
     place
 }
 
-// Writes the group of the reads from `from` on: its two flag bytes, then its sizes.
+// Writes the group of the reads from `from` on: its sizes, then its two flag bytes before them.
 fn put_group(ends: &[u32], from: usize, out: &mut [u8], at: usize) -> usize
     requires { ⌜ (from < length (now ends)) × (length (now ends) ≤ maxReads) ⌝ }
     requires { ⌜ at + length (sizeGroupBytes (part (storedOf (now ends)) from 8))
@@ -75,30 +80,24 @@ fn put_group(ends: &[u32], from: usize, out: &mut [u8], at: usize) -> usize
         (sizeGroupBytes (part (storedOf (now (ends .entry))) from 8)))
         × (r ≡ at + length (sizeGroupBytes (part (storedOf (now (ends .entry))) from 8))) ⌝ }
 {
-    let same = flag_byte(ends, from, true);
-    let sizes = flag_byte(ends, from, false);
-    out[at] = same;
-    out[at + 1] = sizes;
-    put_group_sizes(ends, from, out, at + 2)
-}
-
-// Writes the sizes of a group.
-fn put_group_sizes(ends: &[u32], from: usize, out: &mut [u8], at: usize) -> usize
-    requires { ⌜ (from < length (now ends)) × (length (now ends) ≤ maxReads) ⌝ }
-    requires { ⌜ at + length (flatMap storedBytes (part (storedOf (now ends)) from 8))
-        ≤ length (now out) ⌝ }
-    ensures { λ r. ⌜ (now (out .exit) ≡ pasted (now (out .entry)) at
-        (flatMap storedBytes (part (storedOf (now (ends .entry))) from 8)))
-        × (r ≡ at + length (flatMap storedBytes (part (storedOf (now (ends .entry))) from 8))) ⌝ }
-{
-    let size = group_size(ends.len(), from);
-    let mut place = at;
+    let reads = group_size(ends.len(), from);
+    let mut before = end_before(ends, from);
+    let mut previous = length_before(ends, from);
+    let mut writer = GroupWriter {
+        place: at + 2,
+        flags: 0,
+    };
     let mut k: usize = 0;
-    while k < size {
-        place = put_form(form_at(ends, from + k), out, place);
+    while k < reads {
+        let end = ends[from + k];
+        let size = difference(end, before);
+        writer = put_size(size, previous, out, writer);
+        before = end;
+        previous = integers::wide64(size);
         k += 1;
     }
-    place
+    integers::put_u16(out, at, writer.flags << (8 - reads));
+    writer.place
 }
 
 // Whether there is a read and all are equally long (flag 0x1).
@@ -121,45 +120,47 @@ pub fn all_equal(ends: &[u32]) -> bool
 
 // ---- One length
 
-// How read i is stored: same bit before byte-size bit before words.
-fn form_at(ends: &[u32], i: usize) -> SizeForm
-    requires { ⌜ i < length (now ends) ⌝ }
-    ensures { λ r. ⌜ r ≡ formOf (getD (storedOf (now (ends .entry))) i (inWords 0)) ⌝ }
+// How many bytes a length takes after one of `previous` letters.
+fn stored_length(size: u32, previous: u64) -> usize
+    ensures { λ r. ⌜ (r ≡ length (storedBytes (storedAfter previous size))) × (r ≤ 262144) ⌝ }
 {
-    let size = length_at(ends, i);
-    if repeats(ends, i) {
-        return SizeForm::Same;
+    if integers::wide64(size) == previous {
+        return 0;
     }
     if size < 256 {
-        return SizeForm::InByte(size as u8);
+        return 1;
     }
-    SizeForm::InWords(size)
+    (integers::size32(size / WORD_ESCAPE) + 1) * 2
 }
 
-// How many bytes a form takes.
-fn form_length(form: SizeForm) -> usize
-    ensures { λ r. ⌜ (r ≡ length (formBytes form)) × (r ≤ 262144) ⌝ }
+// Writes a length after one of `previous` letters: same bit before byte-size bit before words.
+// The flags of at most seven reads are gathered before.
+fn put_size(size: u32, previous: u64, out: &mut [u8], writer: GroupWriter) -> GroupWriter
+    requires { ⌜ writer .place + length (storedBytes (storedAfter previous size))
+        ≤ length (now out) ⌝ }
+    requires { ⌜ writer .flags ≤ 0x7f7f ⌝ }
+    ensures { λ r. ⌜ (now (out .exit) ≡ pasted (now (out .entry)) (writer .place)
+        (storedBytes (storedAfter previous size)))
+        × (r ≡ writerAfter writer (storedAfter previous size)) ⌝ }
 {
-    match form {
-        SizeForm::Same => return 0,
-        SizeForm::InByte(_) => return 1,
-        SizeForm::InWords(size) => return (integers::size32(size / WORD_ESCAPE) + 1) * 2,
+    let at = writer.place;
+    let flags = writer.flags * 2;
+    if integers::wide64(size) == previous {
+        return GroupWriter {
+            place: at,
+            flags: flags + 1,
+        };
     }
-}
-
-// Writes a length in its form; the answer is the place after it.
-fn put_form(form: SizeForm, out: &mut [u8], at: usize) -> usize
-    requires { ⌜ at + length (formBytes form) ≤ length (now out) ⌝ }
-    ensures { λ r. ⌜ (now (out .exit) ≡ pasted (now (out .entry)) at (formBytes form))
-        × (r ≡ at + length (formBytes form)) ⌝ }
-{
-    match form {
-        SizeForm::Same => return at,
-        SizeForm::InByte(size) => {
-            out[at] = size;
-            return at + 1;
-        }
-        SizeForm::InWords(size) => return put_words(size, out, at),
+    if size < 256 {
+        out[at] = size as u8;
+        return GroupWriter {
+            place: at + 1,
+            flags: flags + 256,
+        };
+    }
+    GroupWriter {
+        place: put_words(size, out, at),
+        flags: flags,
     }
 }
 
@@ -180,65 +181,28 @@ fn put_words(size: u32, out: &mut [u8], at: usize) -> usize
     place + 2
 }
 
-// ---- Flag bytes
-
-// The same byte of the group from `from` on, or its byte-size byte.
-fn flag_byte(ends: &[u32], from: usize, sames: bool) -> u8
-    requires { ⌜ (from < length (now ends)) × (length (now ends) ≤ maxReads) ⌝ }
-    ensures { λ r. ⌜ r ≡ flagByte (flagTest sames) (part (storedOf (now (ends .entry))) from 8) ⌝ }
-{
-    let mut byte: u8 = 0;
-    let mut k: usize = 0;
-    while k < 8 {
-        byte = byte * 2 + flag_bit(ends, from + k, sames);
-        k += 1;
-    }
-    byte
-}
-
-// The bit of read i in a flag byte; 0 past the last read.
-fn flag_bit(ends: &[u32], i: usize, sames: bool) -> u8
-    ensures { λ r. ⌜ r ≡ cond
-        (flagTest sames (getD (storedOf (now (ends .entry))) i (inWords 0))) 1 0 ⌝ }
-{
-    if ends.len() <= i {
-        return 0;
-    }
-    form_flag(form_at(ends, i), sames)
-}
-
-// The bit of a form.
-fn form_flag(form: SizeForm, sames: bool) -> u8
-    ensures { λ r. ⌜ r ≡ formFlag sames form ⌝ }
-{
-    match form {
-        SizeForm::Same => {
-            if sames {
-                return 1;
-            }
-            return 0;
-        }
-        SizeForm::InByte(_) => {
-            if sames {
-                return 0;
-            }
-            return 1;
-        }
-        SizeForm::InWords(_) => return 0,
-    }
-}
-
 // ---- Lengths from ends
 
-// Whether read i has the length of the read before it.
-fn repeats(ends: &[u32], i: usize) -> bool
+// The length of the read before read i.
+fn length_before(ends: &[u32], i: usize) -> u64
     requires { ⌜ i < length (now ends) ⌝ }
-    ensures { λ r. ⌜ r ≡ isSame (getD (storedOf (now (ends .entry))) i (inWords 0)) ⌝ }
+    ensures { λ r. ⌜ r ≡ lengthBefore (now (ends .entry)) i ⌝ }
 {
     if i == 0 {
-        return false;
+        return NO_LENGTH;
     }
-    length_at(ends, i) == length_at(ends, i - 1)
+    integers::wide64(length_at(ends, i - 1))
+}
+
+// Where the read before read i ends.
+fn end_before(ends: &[u32], i: usize) -> u32
+    requires { ⌜ i < length (now ends) ⌝ }
+    ensures { λ r. ⌜ r ≡ endBefore (now (ends .entry)) i ⌝ }
+{
+    if i == 0 {
+        return 0;
+    }
+    ends[i - 1]
 }
 
 // The length of read i.
@@ -246,10 +210,7 @@ fn length_at(ends: &[u32], i: usize) -> u32
     requires { ⌜ i < length (now ends) ⌝ }
     ensures { λ r. ⌜ r ≡ getD (stepsFrom 0 (now (ends .entry))) i 0 ⌝ }
 {
-    if i == 0 {
-        return ends[i];
-    }
-    difference(ends[i], ends[i - 1])
+    difference(ends[i], end_before(ends, i))
 }
 
 // The difference of two numbers, 0 where it would be negative.

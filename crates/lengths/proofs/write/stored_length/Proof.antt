@@ -1,0 +1,45 @@
+-- `lengths::write::stored_length` meets its contract, for each of the three ways. Assumes nothing.
+use mathlib.Core.Path.{sym, ap, _∙_}
+use Prim.Native.Nat.{ℕ, _+_, _*_}
+use native.Mathlib.Omega.{arith}
+use Rattle.lengths.proofs.FormLaws.{length-same, length-byte, length-words}
+use borrow.Author.Needs.{needs}
+use Rattle.lengths.proofs.write.stored_length.Statement.{statement}
+use Rattle.lengths.proofs.write.stored_length.Tie as tie
+
+wide64-requires : tie.Need-wide64-requires
+wide64-requires c κs = search needs
+
+returns : tie.Need-returns
+returns c =
+    let a = c .before .before .args in
+    (length-same (a .previous) (a .size) (sym (c .before .wide64 .ensures .0) ∙ c .if1 .taken), omega arith)
+
+returns-2 : tie.Need-returns-2
+returns-2 c =
+    let a = c .before .before .before .args in (
+      length-byte (a .previous) (a .size) (λ e. c .before .if1 .left (c .before .before .wide64 .ensures .0 ∙ e)) (c .if2 .taken),
+      omega arith,
+    )
+
+size32-requires : tie.Need-size32-requires
+size32-requires c κs = search needs
+
+add-result : tie.Need-add-result
+add-result c = search needs
+
+mul-result : tie.Need-mul-result
+mul-result c = search needs
+
+returns-3 : tie.Need-returns-3
+returns-3 c =
+    let a = c .before .before .before .before .args in (
+      ap (λ (n : ℕ). (n + 1) * 2) (c .size32 .ensures .0)
+          ∙ length-words (a .previous) (a .size) (λ e. c .before .before .if1 .left (c .before .before .before .wide64 .ensures .0 ∙ e)) (c .before .if2 .left),
+      omega (arith, c .size32 .ensures .0),
+    )
+
+pub stored-length-spec : {M : Type 1} → statement M
+stored-length-spec =
+    tie.close
+    (tie.spec wide64-requires returns returns-2 size32-requires add-result mul-result returns-3)
