@@ -102,33 +102,33 @@ module _ (ends : List ℕ) (from : ℕ) where
       (sym (List·getD-map test group k (inWords 0))
       ∙ ap (λ (t : Bool). getD (map test group) k t) none))
 
-  module _ (reads flags : ℕ) (all : reads ≡ min 8 (length ends - from)) (is : flags ≡ gathered reads)
-    where
-      shifted : flags * 2 ^ (8 - reads) ≡ gathered 8
-      unfolding gathered
-      shifted =
-          let e : reads + (8 - reads) ≡ 8 = omega arith in
-          ap (λ (b : ℕ). b * 2 ^ (8 - reads)) is
-          ∙ sym
-          (byteOf-more reads (8 - reads) _
-          (λ k low high. past k (omega (arith, all))))
-          ∙ ap (λ (n : ℕ). byteOf 2 n (λ j. flagBits (getD (storedOf ends) (from + j) (inWords 0)))) e
+  module _ (reads flags : ℕ) (all : reads ≡ min 8 (length ends - from))
+      (is : flags ≡ gathered reads) where
+    shifted : flags * 2 ^ (8 - reads) ≡ gathered 8
+    unfolding gathered
+    shifted =
+        let e : reads + (8 - reads) ≡ 8 = omega arith in
+        ap (λ (b : ℕ). b * 2 ^ (8 - reads)) is
+        ∙ sym
+        (byteOf-more reads (8 - reads) _
+        (λ k low high. past k (omega (arith, all))))
+        ∙ ap (λ (n : ℕ). byteOf 2 n (λ j. flagBits (getD (storedOf ends) (from + j) (inWords 0)))) e
 
-      -- The two bytes, with those of a shorter group shifted up.
-      pub gathered-bytes : leBytes 2 (flags * 2 ^ (8 - reads) % 65536)
-          ≡ flagByte isSame (part (storedOf ends) from 8)
-          ∷ flagByte isInByte (part (storedOf ends) from 8) ∷ []
-      unfolding leBytes isSame isInByte
-      gathered-bytes =
-          let x : ℕ = flags * 2 ^ (8 - reads) % 65536 in
-          let s : ℕ = byteOf 2 8 (testBit isSame) in
-          let b : ℕ = byteOf 2 8 (testBit isInByte) in
-          let low : s < 256 = bits-below isSame 8 in
-          let high : b < 256 = bits-below isInByte 8 in
-          let value : x ≡ s + 256 * b =
-          ap (λ (n : ℕ). n % 65536) (shifted ∙ both 8) ∙ mod-eq-of-lt (omega arith) in
-          let one : x % 256 ≡ s = omega arith in
-          let upper : x / 256 ≡ b = omega arith in
-          let two : x / 256 % 256 ≡ b =
-          ap (λ (n : ℕ). n % 256) upper ∙ mod-eq-of-lt high in
-          ap₂ (λ (m n : ℕ). m ∷ n ∷ []) (one ∙ whole isSame refl) (two ∙ whole isInByte refl)
+    -- The two bytes, with those of a shorter group shifted up.
+    pub gathered-bytes : leBytes 2 (flags * 2 ^ (8 - reads) % 65536)
+        ≡ flagByte isSame (part (storedOf ends) from 8)
+        ∷ flagByte isInByte (part (storedOf ends) from 8) ∷ []
+    unfolding leBytes isSame isInByte
+    gathered-bytes =
+        let x : ℕ = flags * 2 ^ (8 - reads) % 65536 in
+        let s : ℕ = byteOf 2 8 (testBit isSame) in
+        let b : ℕ = byteOf 2 8 (testBit isInByte) in
+        let low : s < 256 = bits-below isSame 8 in
+        let high : b < 256 = bits-below isInByte 8 in
+        let value : x ≡ s + 256 * b =
+        ap (λ (n : ℕ). n % 65536) (shifted ∙ both 8) ∙ mod-eq-of-lt (omega arith) in
+        let one : x % 256 ≡ s = omega arith in
+        let upper : x / 256 ≡ b = omega arith in
+        let two : x / 256 % 256 ≡ b =
+        ap (λ (n : ℕ). n % 256) upper ∙ mod-eq-of-lt high in
+        ap₂ (λ (m n : ℕ). m ∷ n ∷ []) (one ∙ whole isSame refl) (two ∙ whole isInByte refl)

@@ -9,5 +9,6 @@ pub mod FixedLaws
 pub mod GivenLaws
 pub mod FormLaws
 pub mod FlagLaws
+pub mod WrittenWords
 pub mod WritingLaws
 pub mod EqualLaws

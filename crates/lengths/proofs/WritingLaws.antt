@@ -3,14 +3,13 @@ use mathlib.Core.Path.{_≡_, refl, sym, ap, ap₂, _∙_}
 use Prim.Native.Nat.{ℕ, zero, suc, _+_, _-_, _*_, _/_, _≤_, _<_, min}
 use native.Mathlib.Numerals.{add-one}
 use native.Mathlib.Omega.{arith}
-use mathlib.Core.List.{List, [], _∷_, _++_, flatMap, append-nil, append-assoc}
+use mathlib.Core.List.{List, [], _∷_, _++_, flatMap, append-assoc}
 use lib.ListN.{length, getD, take, drop, set, length-take, length-drop, length-append}
 use lib.Seq.{drop-cons, drop-drop, drop-at, take-take, take-append-le, length-take-le}
 use Rattle.base.specs.Lists.{part, total}
 use Rattle.base.specs.Groups.{groupCount}
 use Rattle.base.specs.Numbers.{leBytes}
 use Rattle.base.specs.Paste.{pasted}
-use Rattle.base.proofs.NumberLaws.{length-leBytes}
 use Rattle.base.proofs.PasteLaws.{pasted-nil, set-pasted}
 use Rattle.base.proofs.PastingLaws.{Pasting, pasting-room, pasting-turn, pasting-end}
 use Rattle.dna.specs.Varint16.{varint16Bytes}
@@ -27,9 +26,6 @@ use Rattle.dna.specs.Sizes.{
   sizeSectionBytes,
 }
 use Rattle.dna.proofs.SizeBytesLaws.{
-  varint16-last,
-  varint16-more,
-  length-varint16,
   sizeSection-nil,
   sizeSection-cons,
   storedTotal,
@@ -51,30 +47,6 @@ drop-all zero [] h = refl
 drop-all zero (x ∷ xs) h = absurd (omega arith)
 drop-all (suc k) [] h = refl
 drop-all (suc k) (x ∷ xs) h = drop-all k xs (omega arith)
-
--- ---- Words
-
-module _ {goal : List ℕ} {end : ℕ} {out : List ℕ} {place : ℕ} (left : ℕ)
-    (writing : Pasting goal end out place (varint16Bytes left)) where
-  -- There is room for one word at least.
-  pub words-room : place + 2 ≤ length out
-  words-room = omega (arith, writing .room, length-varint16 left)
-
-  pub words-turn : (out′ : List ℕ) → 32768 ≤ left → out′ ≡ pasted out place (leBytes 2 32768)
-      → Pasting goal end out′ (place + 2) (varint16Bytes (left - 32768))
-  words-turn out′ large written =
-      pasting-turn writing (leBytes 2 32768) (varint16Bytes (left - 32768)) out′ (place + 2)
-      (varint16-more left large) written
-      (omega (arith, length-leBytes 2 32768))
-
-  pub words-end : (out′ : List ℕ) → left < 32768 → out′ ≡ pasted out place (leBytes 2 left)
-      → (out′ ≡ goal) × (place + 2 ≡ end)
-  words-end out′ small written =
-      pasting-end
-      (pasting-turn writing (leBytes 2 left) [] out′ (place + 2)
-      (varint16-last left small ∙ sym (append-nil (leBytes 2 left))) written
-      (omega (arith, length-leBytes 2 left)))
-      refl
 
 -- ---- The sizes of a group
 
@@ -251,7 +223,8 @@ module _ (group : List StoredSize) (buffer : List ℕ) (at : ℕ)
 module _ (previous size : ℕ) (writer : GroupWriter) (buffer : List ℕ) where
   -- What is known of the stored size is known of what is written.
   written-as : (stored : StoredSize) (out : List ℕ) (place flags : ℕ)
-      → storedAfter previous size ≡ stored → out ≡ pasted buffer (writer .place) (storedBytes stored)
+      → storedAfter previous size ≡ stored
+      → out ≡ pasted buffer (writer .place) (storedBytes stored)
       → place ≡ writer .place + length (storedBytes stored)
       → flags ≡ writer .flags * 2 + flagBits stored
       → (out ≡ pasted buffer (writer .place) (storedBytes (storedAfter previous size)))
@@ -301,12 +274,12 @@ module _ (previous size : ℕ) (writer : GroupWriter) (buffer : List ℕ) where
         (after-words previous size other large) written there (omega arith)
 
 -- The two numbers of a writer after a size.
-pub place-after : (writer next : GroupWriter) (stored : StoredSize) → next ≡ writerAfter writer stored
-    → next .place ≡ writer .place + length (storedBytes stored)
+pub place-after : (writer next : GroupWriter) (stored : StoredSize)
+    → next ≡ writerAfter writer stored → next .place ≡ writer .place + length (storedBytes stored)
 unfolding writerAfter
 place-after writer next stored is = ap (λ (w : GroupWriter). w .place) is
 
-pub flags-after : (writer next : GroupWriter) (stored : StoredSize) → next ≡ writerAfter writer stored
-    → next .flags ≡ writer .flags * 2 + flagBits stored
+pub flags-after : (writer next : GroupWriter) (stored : StoredSize)
+    → next ≡ writerAfter writer stored → next .flags ≡ writer .flags * 2 + flagBits stored
 unfolding writerAfter
 flags-after writer next stored is = ap (λ (w : GroupWriter). w .flags) is

@@ -5,7 +5,7 @@ use dna::refusals::DNA_SIZE_WRONG;
 use dna::refusals::LENGTHS_INVALID;
 ghost use mathlib.Core.Path.{_≡_};
 ghost use mathlib.Core.Bool.{cond};
-ghost use Prim.Native.Nat.{_+_, _≤_};
+ghost use Prim.Native.Nat.{_+_};
 ghost use lib.ListN.{length};
 ghost use lib.Dec.{ltb};
 ghost use Rattle.base.specs.Numbers.{nonNegative};

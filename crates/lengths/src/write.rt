@@ -1,7 +1,7 @@
 // Writing a size section from the ends of the reads, which are lent; a length is the difference of
-// two ends. The contracts cite specs/Form.antt, specs/Sizes.antt of dna and specs/Paste.antt of base.
-// Each `requires` is one that encoding has tested before: at most 50,000 reads, and room for the
-// bytes.
+// two ends. The contracts cite specs/Form.antt, specs/Sizes.antt of dna and specs/Paste.antt of
+// base. Each `requires` is one that encoding has tested before: at most 50,000 reads, and room for
+// the bytes.
 use super::WORD_ESCAPE;
 ghost use mathlib.Core.Path.{_≡_};
 ghost use Prim.Native.Nat.{_+_, _-_, _≤_, _<_, min};
@@ -19,6 +19,9 @@ ghost use Rattle.lengths.specs.Form.{
   lengthBefore,
   writerAfter,
 };
+
+// A length below it takes one byte.
+const BYTE_LIMIT: u32 = 256;
 
 // What stands for the length before the first read: no length is as large.
 const NO_LENGTH: u64 = 4294967296;
@@ -127,7 +130,7 @@ fn stored_length(size: u32, previous: u64) -> usize
     if integers::wide64(size) == previous {
         return 0;
     }
-    if size < 256 {
+    if size < BYTE_LIMIT {
         return 1;
     }
     (integers::size32(size / WORD_ESCAPE) + 1) * 2
@@ -151,7 +154,7 @@ fn put_size(size: u32, previous: u64, out: &mut [u8], writer: GroupWriter) -> Gr
             flags: flags + 1,
         };
     }
-    if size < 256 {
+    if size < BYTE_LIMIT {
         out[at] = size as u8;
         return GroupWriter {
             place: at + 1,
@@ -164,8 +167,25 @@ fn put_size(size: u32, previous: u64, out: &mut [u8], writer: GroupWriter) -> Gr
     }
 }
 
-// Writes a length in words.
+// Writes a length in words. Up to two words of 32768 need no branch: those that are too many are
+// written over.
 fn put_words(size: u32, out: &mut [u8], at: usize) -> usize
+    requires { ⌜ at + length (varint16Bytes size) ≤ length (now out) ⌝ }
+    ensures { λ r. ⌜ (now (out .exit) ≡ pasted (now (out .entry)) at (varint16Bytes size))
+        × (r ≡ at + length (varint16Bytes size)) ⌝ }
+{
+    let escapes = integers::size32(size / WORD_ESCAPE);
+    if 2 < escapes {
+        return put_many_words(size, out, at);
+    }
+    integers::put_u16(out, at, WORD_ESCAPE as u16);
+    integers::put_u16(out, at + (escapes + 1) / 2 * 2, WORD_ESCAPE as u16);
+    integers::put_u16(out, at + escapes * 2, (size % WORD_ESCAPE) as u16);
+    at + escapes * 2 + 2
+}
+
+// Writes a length in any number of words.
+fn put_many_words(size: u32, out: &mut [u8], at: usize) -> usize
     requires { ⌜ at + length (varint16Bytes size) ≤ length (now out) ⌝ }
     ensures { λ r. ⌜ (now (out .exit) ≡ pasted (now (out .entry)) at (varint16Bytes size))
         × (r ≡ at + length (varint16Bytes size)) ⌝ }

@@ -1,4 +1,5 @@
--- `lengths::write::end_before` meets its contract: 0, or the end of the read before. Assumes nothing.
+-- `lengths::write::end_before` meets its contract: 0, or the end of the read before.
+-- Assumes nothing.
 use Rattle.lengths.proofs.FormLaws.{end-first, end-later}
 use borrow.Author.Needs.{needs}
 use Rattle.lengths.proofs.write.end_before.Statement.{statement}

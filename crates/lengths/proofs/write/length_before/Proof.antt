@@ -23,7 +23,9 @@ wide64-requires c κs = search needs
 returns-2 : tie.Need-returns-2
 returns-2 c =
     let a = c .before .before .before .before .args in
-    c .wide64 .ensures .0 ∙ c .before .length-at .ensures ∙ length-later (a .ends .now) (a .i) (c .before .before .if1 .left)
+    c .wide64 .ensures .0
+    ∙ c .before .length-at .ensures
+    ∙ length-later (a .ends .now) (a .i) (c .before .before .if1 .left)
 
 pub length-before-spec : {M : Type 1} → statement M
 length-before-spec =

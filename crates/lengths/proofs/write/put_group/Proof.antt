@@ -1,7 +1,7 @@
 -- `lengths::write::put_group` meets its contract. The loop's invariant: writing what is left of the
 -- sizes makes the buffer what it is to be, the end and the length of the read before are known, and
 -- the flags are those of the reads that are written. Assumes nothing.
-use mathlib.Core.Path.{_≡_, refl, sym, ap, _∙_}
+use mathlib.Core.Path.{_≡_, refl, ap, _∙_}
 use Prim.Native.Nat.{_+_, _-_, _≤_, _<_, min}
 use native.Mathlib.Omega.{arith}
 use lib.ListN.{length, getD}
@@ -58,13 +58,15 @@ add-put-u16 c = search needs
 
 loop-holds : tie.Need-loop-holds Inv-loop μ-loop
 loop-holds c =
-    let a = c .before .before .before .before .before .args in
+    let set = c .before .before in
+    let a = set .before .before .before .args in
     let group = part (storedOf (a .ends .now)) (a .from) 8 in (
       omega arith,
       pasting-start (a .out .now) (a .at + 2) (groupLeft (a .ends .now) (a .from) 0)
           (group-room group (a .out .now) (a .at) (omega arith)),
       refl,
-      behind-start (a .ends .now) (a .from) _ _ (c .before .end-before .ensures) (c .length-before .ensures),
+      behind-start (a .ends .now) (a .from) _ _ (c .before .end-before .ensures)
+          (c .length-before .ensures),
       gathered-none (a .ends .now) (a .from),
     )
 
@@ -154,21 +156,23 @@ same-length c = search needs
 
 returns : tie.Need-returns Inv-loop μ-loop
 returns c =
-    let left = c .before .before .before .before .before in
+    let put = c .before .before in
+    let left = put .before .before .before in
     let l = left .before .loop in
     let set = left .before .before .before .before in
     let a = set .before .before .before .args in
     let ends = a .ends .now in
     let group = part (storedOf ends) (a .from) 8 in
     let all : l .k ≡ set .group-size .result = omega arith in
-    let end = group-end ends (a .from) (l .k) (omega (arith, set .group-size .ensures)) (l .inv .1) in
+    let end = group-end ends (a .from) (l .k) (omega (arith, set .group-size .ensures))
+    (l .inv .1) in
     let bits : l .writer .flags ≡ gathered ends (a .from) (set .group-size .result) =
     l .inv .4 ∙ ap (gathered ends (a .from)) all in
     write-group group (a .out .now) (a .at) (omega arith) (l .out) _ (l .writer .place) _ (end .0)
     (end .1)
     (gathered-bytes ends (a .from) (set .group-size .result) (l .writer .flags)
     (set .group-size .ensures) bits)
-    (c .before .before .put-u16 .ensures)
+    (put .put-u16 .ensures)
 
 pub put-group-spec : {M : Type 1} → statement M
 put-group-spec =

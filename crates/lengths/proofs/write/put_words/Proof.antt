@@ -1,95 +1,118 @@
--- `lengths::write::put_words` meets its contract. The loop's invariant: writing the
--- words that are left makes the buffer what it is to be. Assumes nothing.
-use mathlib.Core.Path.{_≡_, refl}
-use Prim.Native.Nat.{_+_}
+-- `lengths::write::put_words` meets its contract: what is written over is not seen.
+-- Assumes nothing.
+use Prim.Native.Nat.{_+_, _*_, _≤_}
 use native.Mathlib.Omega.{arith}
 use lib.ListN.{length}
-use Rattle.base.specs.Paste.{pasted}
-use Rattle.base.proofs.PastingLaws.{Pasting, pasting-start}
-use Rattle.dna.specs.Varint16.{varint16Bytes}
-use Rattle.lengths.proofs.WritingLaws.{words-room, words-turn, words-end}
+use Rattle.lengths.proofs.WrittenWords.{few-room, few-words}
 use borrow.Author.Needs.{needs}
 use Rattle.lengths.proofs.write.put_words.Statement.{statement}
 use Rattle.lengths.proofs.write.put_words.Tie as tie
 
-abbrev Inv-loop : tie.InvT-loop
-Inv-loop size out₀ at left₀ place₀ out left place =
-    Pasting (pasted out₀ at (varint16Bytes size)) (at + length (varint16Bytes size)) out place
-    (varint16Bytes left)
-    × (length out ≡ length out₀)
+-- There is room for the words, of which at most two are 32768.
+room : (c : tie.Else1)
+    → c .before .before .before .args .at + c .before .size32 .result * 2 + 2
+    ≤ length (c .before .before .before .args .out .now)
+room c =
+    let a = c .before .before .before .args in
+    few-room (a .out .now) (a .at) (a .size) (omega arith) (c .before .size32 .result)
+    (c .before .size32 .ensures .0) (c .if1 .left)
 
-abbrev μ-loop : tie.MeasureT-loop
-μ-loop size out₀ at left₀ place₀ out left place = left
+size32-requires : tie.Need-size32-requires
+size32-requires c κs = search needs
 
-loop-holds : tie.Need-loop-holds Inv-loop μ-loop
-loop-holds c = (
-  pasting-start (c .before .args .out .now) (c .before .args .at)
-      (varint16Bytes (c .before .args .size)) (c .before .pre),
-  refl,
-)
+put-many-words-requires : tie.Need-put-many-words-requires
+put-many-words-requires c κs = search needs
 
-cast-put-u16 : tie.Need-cast-put-u16 Inv-loop μ-loop
-cast-put-u16 c = search needs
-
-put-u16-requires : tie.Need-put-u16-requires Inv-loop μ-loop
-put-u16-requires c κs =
-    let l = c .before .before .loop in
-    words-room (l .left) (l .inv .0)
-
-add-place : tie.Need-add-place Inv-loop μ-loop
-add-place c =
-    let l = c .before .before .before .before .before .loop in
-    omega (arith, words-room (l .left) (l .inv .0))
-
-loop-less : tie.Need-loop-less Inv-loop μ-loop
-loop-less c = search needs
-
-loop-again : tie.Need-loop-again Inv-loop μ-loop
-loop-again c =
-    let l = c .before .before .before .before .before .loop in
-    let put-u16 = c .before .before .put-u16 in (
-      words-turn (l .left) (l .inv .0) (put-u16 .last .0)
-          (c .before .before .before .before .loop-test .taken) (put-u16 .ensures),
-      search needs,
-    )
-
-cast-put-u16-2 : tie.Need-cast-put-u16-2 Inv-loop μ-loop
-cast-put-u16-2 c = search needs
-
-put-u16-requires-2 : tie.Need-put-u16-requires-2 Inv-loop μ-loop
-put-u16-requires-2 c κs =
-    let l = c .before .before .loop in
-    words-room (l .left) (l .inv .0)
-
-add-result : tie.Need-add-result Inv-loop μ-loop
-add-result c =
-    let l = c .before .before .before .before .before .loop in
-    omega (arith, words-room (l .left) (l .inv .0))
-
-same-length : tie.Need-same-length Inv-loop μ-loop
+same-length : tie.Need-same-length
 same-length c = search needs
 
-returns : tie.Need-returns Inv-loop μ-loop
-returns c =
-    let l = c .before .before .before .before .before .loop in
-    let put-u162 = c .before .before .put-u162 in
-    words-end (l .left) (l .inv .0) (put-u162 .last .0)
-    (c .before .before .before .before .loop-test .left) (put-u162 .ensures)
+returns : tie.Need-returns
+returns c = search needs
+
+cast-put-u16 : tie.Need-cast-put-u16
+cast-put-u16 c = search needs
+
+put-u16-requires : tie.Need-put-u16-requires
+put-u16-requires c κs = omega (arith, room (c .before))
+
+add-put-u16 : tie.Need-add-put-u16
+add-put-u16 c = search needs
+
+mul-put-u16 : tie.Need-mul-put-u16
+mul-put-u16 c = search needs
+
+add-put-u16-2 : tie.Need-add-put-u16-2
+add-put-u16-2 c = search needs
+
+cast-put-u16-2 : tie.Need-cast-put-u16-2
+cast-put-u16-2 c = search needs
+
+put-u16-requires-2 : tie.Need-put-u16-requires-2
+put-u16-requires-2 c κs =
+    let first = c .before .before .before in
+    let few = first .before .before in
+    omega (arith, room few, few .if1 .left)
+
+mul-put-u16-2 : tie.Need-mul-put-u16-2
+mul-put-u16-2 c = search needs
+
+add-put-u16-3 : tie.Need-add-put-u16-3
+add-put-u16-3 c = search needs
+
+cast-put-u16-3 : tie.Need-cast-put-u16-3
+cast-put-u16-3 c = search needs
+
+put-u16-requires-3 : tie.Need-put-u16-requires-3
+put-u16-requires-3 c κs =
+    let second = c .before .before .before in
+    let first = second .before .before .before .before in
+    let few = first .before .before in
+    omega (arith, room few, few .if1 .left)
+
+mul-result : tie.Need-mul-result
+mul-result c = search needs
+
+add-result : tie.Need-add-result
+add-result c = search needs
+
+add-result-2 : tie.Need-add-result-2
+add-result-2 c = search needs
+
+same-length-2 : tie.Need-same-length-2
+same-length-2 c = search needs
+
+returns-2 : tie.Need-returns-2
+returns-2 c =
+    let third = c .before .before in
+    let second = third .before .before .before .before in
+    let first = second .before .before .before .before in
+    let few = first .before .before in
+    let a = few .before .before .before .args in
+    few-words (a .out .now) (a .at) (a .size) (omega arith) (few .before .size32 .result)
+    (few .before .size32 .ensures .0) (few .if1 .left) _ _ _ (first .put-u16 .ensures)
+    (second .put-u162 .ensures) (third .put-u163 .ensures)
 
 pub put-words-spec : {M : Type 1} → statement M
 put-words-spec =
     tie.close
     (tie.spec
-    Inv-loop
-    μ-loop
-    loop-holds
+    size32-requires
+    put-many-words-requires
+    same-length
+    returns
     cast-put-u16
     put-u16-requires
-    add-place
-    loop-less
-    loop-again
+    add-put-u16
+    mul-put-u16
+    add-put-u16-2
     cast-put-u16-2
     put-u16-requires-2
+    mul-put-u16-2
+    add-put-u16-3
+    cast-put-u16-3
+    put-u16-requires-3
+    mul-result
     add-result
-    same-length
-    returns)
+    add-result-2
+    same-length-2
+    returns-2)

@@ -86,7 +86,8 @@ loop-again c =
 returns : tie.Need-returns Inv-loop μ-loop
 returns c =
     let l = c .before .loop in
-    omega (arith, l .inv .2, count-end (c .before .before .before .args .ends .now) (l .i) (c .loop-test .left))
+    let ends = c .before .before .before .args .ends .now in
+    omega (arith, l .inv .2, count-end ends (l .i) (c .loop-test .left))
 
 pub sizes-length-spec : {M : Type 1} → statement M
 sizes-length-spec =

@@ -1,5 +1,5 @@
 -- `lengths::write::stored_length` meets its contract, for each of the three ways. Assumes nothing.
-use mathlib.Core.Path.{sym, ap, _∙_}
+use mathlib.Core.Path.{_≡_, sym, ap, _∙_}
 use Prim.Native.Nat.{ℕ, _+_, _*_}
 use native.Mathlib.Omega.{arith}
 use Rattle.lengths.proofs.FormLaws.{length-same, length-byte, length-words}
@@ -7,20 +7,24 @@ use borrow.Author.Needs.{needs}
 use Rattle.lengths.proofs.write.stored_length.Statement.{statement}
 use Rattle.lengths.proofs.write.stored_length.Tie as tie
 
+-- Past the first test the length is not the one before.
+other : (c : tie.Else1) → c .before .before .args .size ≡ c .before .before .args .previous → ⊥
+other c e = c .if1 .left (c .before .wide64 .ensures .0 ∙ e)
+
 wide64-requires : tie.Need-wide64-requires
 wide64-requires c κs = search needs
 
 returns : tie.Need-returns
 returns c =
-    let a = c .before .before .args in
-    (length-same (a .previous) (a .size) (sym (c .before .wide64 .ensures .0) ∙ c .if1 .taken), omega arith)
+    let a = c .before .before .args in (
+      length-same (a .previous) (a .size) (sym (c .before .wide64 .ensures .0) ∙ c .if1 .taken),
+      omega arith,
+    )
 
 returns-2 : tie.Need-returns-2
 returns-2 c =
-    let a = c .before .before .before .args in (
-      length-byte (a .previous) (a .size) (λ e. c .before .if1 .left (c .before .before .wide64 .ensures .0 ∙ e)) (c .if2 .taken),
-      omega arith,
-    )
+    let a = c .before .before .before .args in
+    (length-byte (a .previous) (a .size) (other (c .before)) (c .if2 .taken), omega arith)
 
 size32-requires : tie.Need-size32-requires
 size32-requires c κs = search needs
@@ -33,9 +37,10 @@ mul-result c = search needs
 
 returns-3 : tie.Need-returns-3
 returns-3 c =
-    let a = c .before .before .before .before .args in (
+    let past = c .before in
+    let a = past .before .before .before .args in (
       ap (λ (n : ℕ). (n + 1) * 2) (c .size32 .ensures .0)
-          ∙ length-words (a .previous) (a .size) (λ e. c .before .before .if1 .left (c .before .before .before .wide64 .ensures .0 ∙ e)) (c .before .if2 .left),
+          ∙ length-words (a .previous) (a .size) (other (past .before)) (past .if2 .left),
       omega (arith, c .size32 .ensures .0),
     )
 
