@@ -32,10 +32,12 @@ use Rattle.dna.proofs.SizeBytesLaws.{
   length-sizeSection,
 }
 use Rattle.lengths.specs.declared.write.GroupWriter.{GroupWriter}
-use Rattle.lengths.specs.Form.{storedOf, storedAfter, flagBits, writerAfter}
+use Rattle.lengths.specs.Form.{storedOf, storedAfter, noLength, flagBits, writerAfter}
 use Rattle.lengths.proofs.FormLaws.{
   length-storedOf,
   part-at,
+  Behind,
+  behind-stored,
   after-same,
   after-byte,
   after-words,
@@ -176,16 +178,18 @@ count-start ends sum is =
     ∙ omega arith in
     omega (arith, length-sizeSection (storedOf ends))
 
-pub count-turn : (ends : List ℕ) (i : ℕ) (stored : StoredSize) → i < length ends
-    → stored ≡ getD (storedOf ends) i (inWords 0)
+-- One read, after one whose end and length are known.
+pub count-read : (ends : List ℕ) (i before previous end size : ℕ) → i < length ends
+    → Behind ends i before previous → end ≡ getD ends i 0 → size ≡ end - before → end < noLength
     → storedTotal (drop i (storedOf ends))
-    ≡ length (storedBytes stored) + storedTotal (drop (i + 1) (storedOf ends))
+    ≡ length (storedBytes (storedAfter previous size)) + storedTotal (drop (i + 1) (storedOf ends))
 unfolding total
-count-turn ends i stored inside is =
+count-read ends i before previous end size inside behind there is small =
     let all : List StoredSize = storedOf ends in
     ap storedTotal (drop-cons all i (inWords 0) (omega (arith, length-storedOf ends)))
     ∙ ap₂ (λ (n j : ℕ). n + storedTotal (drop j all))
-    (ap (λ (s : StoredSize). length (storedBytes s)) (sym is))
+    (ap (λ (s : StoredSize). length (storedBytes s))
+    (sym (behind-stored ends i before previous end size inside behind there is small)))
     (sym (add-one i))
 
 pub count-end : (ends : List ℕ) (i : ℕ) → length ends ≤ i → storedTotal (drop i (storedOf ends)) ≡ 0

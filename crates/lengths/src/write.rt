@@ -37,7 +37,7 @@ struct GroupWriter {
 
 // ---- The section
 
-// How many bytes the size section takes.
+// How many bytes the size section takes. Two reads a turn.
 pub fn sizes_length(ends: &[u32]) -> usize
     requires { ⌜ length (now ends) ≤ maxReads ⌝ }
     ensures { λ r. ⌜ r ≡ length (sizeSectionBytes (storedOf (now (ends .entry)))) ⌝ }
@@ -46,13 +46,19 @@ pub fn sizes_length(ends: &[u32]) -> usize
     let mut before: u32 = 0;
     let mut previous: u64 = NO_LENGTH;
     let mut i: usize = 0;
-    while i < ends.len() {
-        let end = ends[i];
-        let size = difference(end, before);
-        sum += stored_length(size, previous);
+    while i + 1 < ends.len() {
+        let middle = ends[i];
+        let end = ends[i + 1];
+        let first = difference(middle, before);
+        let second = difference(end, middle);
+        sum += stored_length(first, previous);
+        sum += stored_length(second, integers::wide64(first));
         before = end;
-        previous = integers::wide64(size);
-        i += 1;
+        previous = integers::wide64(second);
+        i += 2;
+    }
+    if i < ends.len() {
+        return sum + stored_length(difference(ends[i], before), previous);
     }
     sum
 }
@@ -167,19 +173,23 @@ fn put_size(size: u32, previous: u64, out: &mut [u8], writer: GroupWriter) -> Gr
     }
 }
 
-// Writes a length in words. Up to two words of 32768 need no branch: those that are too many are
-// written over.
+// Writes a length in words. One or two words of 32768 need no branch: where there is one, the last
+// word is written over the second.
 fn put_words(size: u32, out: &mut [u8], at: usize) -> usize
     requires { ⌜ at + length (varint16Bytes size) ≤ length (now out) ⌝ }
     ensures { λ r. ⌜ (now (out .exit) ≡ pasted (now (out .entry)) at (varint16Bytes size))
         × (r ≡ at + length (varint16Bytes size)) ⌝ }
 {
+    if size < WORD_ESCAPE {
+        integers::put_u16(out, at, size as u16);
+        return at + 2;
+    }
     let escapes = integers::size32(size / WORD_ESCAPE);
     if 2 < escapes {
         return put_many_words(size, out, at);
     }
     integers::put_u16(out, at, WORD_ESCAPE as u16);
-    integers::put_u16(out, at + (escapes + 1) / 2 * 2, WORD_ESCAPE as u16);
+    integers::put_u16(out, at + 2, WORD_ESCAPE as u16);
     integers::put_u16(out, at + escapes * 2, (size % WORD_ESCAPE) as u16);
     at + escapes * 2 + 2
 }
