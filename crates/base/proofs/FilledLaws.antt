@@ -1,6 +1,6 @@
 -- A part that is written in pieces, which may overlap. Assumes nothing.
 use mathlib.Core.Path.{_≡_, refl, sym, ap, _∙_}
-use Prim.Native.Nat.{ℕ, suc, _+_, _-_, _≤_, _<_}
+use Prim.Native.Nat.{ℕ, _+_, _-_, _≤_, _<_}
 use native.Mathlib.Nat.{not-suc-le-zero}
 use native.Mathlib.Omega.{arith}
 use mathlib.Core.List.{List, [], _∷_}
@@ -8,23 +8,8 @@ use lib.ListN.{length, getD, set}
 use lib.Seq.{ext-getD}
 use Rattle.base.specs.Paste.{pasted}
 use Rattle.base.proofs.ListLaws.{by-order}
-use Rattle.base.proofs.PasteLaws.{
-  length-pasted,
-  getD-pasted-before,
-  getD-pasted-inside,
-  getD-pasted-after,
-  sets-pasted,
-  set-pasted,
-}
-
--- Four stores in a row write four elements.
-pub four-pasted : (buffer : List ℕ) (at x₀ x₁ x₂ x₃ : ℕ) → at + 4 ≤ length buffer
-    → set (set (set (set buffer at x₀) (at + 1) x₁) (at + 2) x₂) (at + 3) x₃ ≡ pasted buffer at (x₀ ∷ x₁ ∷ x₂ ∷ x₃ ∷ [])
-four-pasted buffer at x₀ x₁ x₂ x₃ h =
-    let e₁ : at + 1 ≡ suc at = omega arith in
-    let e₂ : at + 2 ≡ suc (suc at) = omega arith in
-    let e₃ : at + 3 ≡ suc (suc (suc at)) = omega arith in
-    rw (e₁, e₂, e₃) (sets-pasted buffer at (x₀ ∷ x₁ ∷ x₂ ∷ x₃ ∷ []) h)
+use Rattle.base.proofs.PasteLaws.{length-pasted, getD-pasted-before, getD-pasted-inside}
+use Rattle.base.proofs.PasteLaws.{getD-pasted-after, set-pasted}
 
 -- The first `done` elements of a part stand in a buffer from index `at` on; outside the part all is as it was.
 pub record Filled (old new : List ℕ) (at : ℕ) (part : List ℕ) (done : ℕ) : Type 0 where

@@ -2,30 +2,10 @@
 use mathlib.Core.Path.{_≡_, refl, sym, ap, ap₂, _∙_, subst}
 use Prim.Native.Nat.{ℕ, zero, suc, _+_, _*_, _/_, _≤_, _<_, min}
 use native.Mathlib.Omega.{arith}
-use mathlib.Core.List.{
-  List,
-  [],
-  _∷_,
-  _++_,
-  map,
-  flatten,
-  nil≢cons,
-  cons≢nil,
-  head-eq-of-cons-eq,
-  tail-eq-of-cons-eq,
-}
-use lib.ListN.{
-  length,
-  take,
-  drop,
-  replicate,
-  length-take,
-  length-drop,
-  length-append,
-  length-map,
-  length-replicate,
-  take-append-drop,
-}
+use mathlib.Core.List.{List, [], _∷_, _++_, map, flatten, nil≢cons, cons≢nil, head-eq-of-cons-eq}
+use mathlib.Core.List.{tail-eq-of-cons-eq}
+use lib.ListN.{length, take, drop, replicate, length-take, length-drop, length-append, length-map}
+use lib.ListN.{length-replicate, take-append-drop}
 use lib.Seq.{drop-drop, take-at, drop-at}
 use Rattle.base.specs.Lists.{build, part, total, All}
 use Rattle.base.specs.Groups.{groupCount, inGroups, groupSizes}

@@ -6,17 +6,8 @@ use native.Mathlib.Decide.{decLe}
 use native.Mathlib.Omega.{arith}
 use mathlib.Core.Bool.{Bool, true, false}
 use mathlib.Core.List.{List, [], _∷_, _++_}
-use lib.ListN.{
-  length,
-  getD,
-  take,
-  drop,
-  length-append,
-  length-take,
-  length-drop,
-  List·getD-append,
-  List·getD-eq-default,
-}
+use lib.ListN.{length, getD, take, drop, length-append, length-take, length-drop, List·getD-append}
+use lib.ListN.{List·getD-eq-default}
 use lib.Seq.{getD-append-add, getD-take, getD-drop}
 use Rattle.base.specs.Lists.{build, Below, All}
 

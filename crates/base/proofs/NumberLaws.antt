@@ -1,25 +1,9 @@
 -- Laws of numbers in bytes. Assumes nothing.
 use mathlib.Core.Path.{_≡_, refl, sym, ap, ap₂, _∙_}
 use Prim.Native.Nat.{ℕ, zero, suc, _+_, _*_, _/_, _%_, _^_, _≤_, _<_}
-use native.Mathlib.Nat.{
-  zero-add,
-  add-zero,
-  suc-add,
-  one-mul,
-  mul-assoc,
-  add-assoc,
-  mul-add,
-  pow-zero,
-  pow-suc,
-  pow-succ',
-  mod-add-div,
-  div-lt-iff-lt-mul,
-  div-one,
-  div-div-eq-div-mul,
-  mod-lt,
-  one-le-pow,
-  zero-lt-suc,
-}
+use native.Mathlib.Nat.{zero-add, add-zero, suc-add, one-mul, mul-assoc, add-assoc, mul-add}
+use native.Mathlib.Nat.{pow-zero, pow-suc, pow-succ', mod-add-div, div-lt-iff-lt-mul, div-one}
+use native.Mathlib.Nat.{div-div-eq-div-mul, mod-lt, one-le-pow, zero-lt-suc}
 use native.Mathlib.Omega.{arith}
 use mathlib.Core.List.{List, _∷_, _++_}
 use lib.ListN.{length, getD}
@@ -30,7 +14,7 @@ use Rattle.base.specs.Place.{At}
 use Rattle.base.specs.Paste.{pasted}
 use Rattle.base.proofs.ListLaws.{below-at, below-nil, below-cons}
 use Rattle.base.proofs.PasteLaws.{pasted-then}
-use Rattle.base.proofs.PlaceLaws.{at-head, at-tail, at-cons, at-nil}
+use Rattle.base.proofs.AtLaws.{at-head, at-tail, at-cons, at-nil}
 
 pub length-leBytes : (width x : ℕ) → length (leBytes width x) ≡ width
 unfolding leBytes

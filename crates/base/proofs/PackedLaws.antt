@@ -1,7 +1,10 @@
 -- Laws of packed symbols, over every base and number of symbols a byte. Assumes nothing.
 use mathlib.Core.Path.{_≡_, refl, sym, ap, ap₂, _∙_, subst}
 use Prim.Native.Nat.{ℕ, zero, suc, _+_, _-_, _*_, _/_, _%_, _^_, _≤_, _<_}
-use native.Mathlib.Nat.{not-suc-le-zero, pow-zero, pow-suc, pow-succ', div-one, div-div-eq-div-mul, div-add-mod', div-lt-iff-lt-mul, le-div-iff-mul-le, div-mul-le-self, mod-lt, mod-eq-of-lt, suc-mul, mul-zero, mul-suc, one-mul, add-mul, add-mul-div-right, add-mul-mod-self-right, mul-le-mul-right, zero-add}
+use native.Mathlib.Nat.{not-suc-le-zero, pow-zero, pow-suc, pow-succ', div-one, div-div-eq-div-mul}
+use native.Mathlib.Nat.{div-add-mod', div-lt-iff-lt-mul, le-div-iff-mul-le, div-mul-le-self, mod-lt}
+use native.Mathlib.Nat.{mod-eq-of-lt, suc-mul, mul-zero, mul-suc, one-mul, add-mul}
+use native.Mathlib.Nat.{add-mul-div-right, add-mul-mod-self-right, mul-le-mul-right, zero-add}
 use native.Mathlib.Omega.{arith}
 use mathlib.Core.List.{List, _++_}
 use lib.ListN.{length, getD}
@@ -11,15 +14,8 @@ use lib.Arith.{digits-lt, digits-div, digits-mod}
 use Rattle.base.specs.Lists.{build, Below}
 use Rattle.base.specs.Packed.{digit, byteOf, packedLength, symbolAt, pack, symbolsAt}
 use Rattle.base.specs.Place.{At}
-use Rattle.base.proofs.ListLaws.{
-  by-order,
-  length-build,
-  getD-build,
-  build-cong,
-  build-append,
-  below-at,
-  below-build,
-}
+use Rattle.base.proofs.ListLaws.{by-order, length-build, getD-build, build-cong}
+use Rattle.base.proofs.ListLaws.{build-append, below-at, below-build}
 
 -- ---- Digits of one byte
 

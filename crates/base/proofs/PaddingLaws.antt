@@ -2,19 +2,8 @@
 -- remainder of the byte is 0. Over every base and number of symbols a byte. Assumes nothing.
 use mathlib.Core.Path.{_≡_, sym, ap, ap₂, _∙_}
 use Prim.Native.Nat.{ℕ, zero, suc, _+_, _-_, _*_, _/_, _%_, _^_, _≤_, _<_}
-use native.Mathlib.Nat.{
-  zero-mul,
-  zero-add,
-  one-mul,
-  add-mul,
-  suc-mul,
-  pow-zero,
-  pow-suc,
-  one-le-pow,
-  mod-one,
-  mod-lt,
-  div-add-mod',
-}
+use native.Mathlib.Nat.{zero-mul, zero-add, one-mul, add-mul, suc-mul, pow-zero, pow-suc}
+use native.Mathlib.Nat.{one-le-pow, mod-one, mod-lt, div-add-mod'}
 use native.Mathlib.Omega.{arith}
 use mathlib.Core.Bool.{Bool, true, not, _||_, or-false, Bool·not-not}
 use mathlib.Core.List.{List, [], _∷_, _++_}
@@ -27,14 +16,8 @@ use Rattle.base.specs.Lists.{build, any}
 use Rattle.base.specs.Packed.{digit, byteOf, packedLength, pack, symbolsAt}
 use Rattle.base.proofs.ListLaws.{by-order, build-cong, build-snoc}
 use Rattle.base.proofs.Tests.{any-append}
-use Rattle.base.proofs.PackedLaws.{
-  digit-last,
-  digit-front,
-  byteOf-cong,
-  packedLength-whole,
-  packedLength-full,
-  packedLength-partial,
-}
+use Rattle.base.proofs.PackedLaws.{digit-last, digit-front, byteOf-cong, packedLength-whole}
+use Rattle.base.proofs.PackedLaws.{packedLength-full, packedLength-partial}
 
 -- Whether a symbol is not 0.
 abbrev nonzero : (symbol : ℕ) → Bool

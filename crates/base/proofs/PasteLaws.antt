@@ -1,37 +1,17 @@
 -- Laws of a buffer with a part written over it, for elements of any type. Assumes nothing.
-use mathlib.Core.Path.{_≡_, sym, ap, ap₂, _∙_, subst}
+use mathlib.Core.Path.{_≡_, sym, ap, ap₂, _∙_}
 use Prim.Native.Nat.{ℕ, _+_, _-_, _≤_, _<_}
 use native.Mathlib.Nat.{add-zero, zero-add}
 use native.Mathlib.Omega.{arith}
 use mathlib.Core.List.{List, [], _∷_, _++_, append-assoc, append-nil}
-use lib.ListN.{
-  length,
-  getD,
-  take,
-  drop,
-  set,
-  length-append,
-  length-drop,
-  List·getD-append,
-  take-append-drop,
-}
-use lib.Seq.{
-  length-take-le,
-  take-at,
-  drop-at,
-  drop-length,
-  drop-drop,
-  getD-append-add,
-  getD-take,
-  getD-drop,
-  paste,
-  sets,
-  sets-eq,
-}
-use Rattle.base.specs.Lists.{build, Below}
+use lib.ListN.{length, getD, take, drop, set, length-append, length-drop, List·getD-append}
+use lib.ListN.{take-append-drop}
+use lib.Seq.{length-take-le, take-at, drop-at, drop-length, drop-drop, getD-append-add, getD-take}
+use lib.Seq.{getD-drop, paste, sets, sets-eq}
+use Rattle.base.specs.Lists.{build}
 use Rattle.base.specs.Place.{At}
 use Rattle.base.specs.Paste.{pasted}
-use Rattle.base.proofs.ListLaws.{by-order, length-build, build-snoc}
+use Rattle.base.proofs.ListLaws.{length-build, build-snoc}
 
 module _ {ℓ} {A : Type ℓ} where
   -- Nothing is written.
@@ -193,32 +173,3 @@ module _ {ℓ} {A : Type ℓ} where
       ∙ ap (pasted buffer at) (sym (build-snoc k f))
 
 -- ---- Lists of numbers
-
--- The part stands where it was written.
-pub at-pasted : (buffer : List ℕ) (at : ℕ) (part : List ℕ) → at + length part ≤ length buffer
-    → At (pasted buffer at part) at part
-at-pasted buffer at part fits =
-    record {
-      fits = rw (length-pasted buffer at part fits) fits;
-      same = λ k h. getD-pasted-inside buffer at part fits k 0 h;
-    }
-
--- A bound on buffer and part holds of both together.
-pub below-pasted : {bound : ℕ} (buffer : List ℕ) (at : ℕ) (part : List ℕ) → at + length part ≤ length buffer
-    → Below bound buffer → Below bound part → Below bound (pasted buffer at part)
-below-pasted {bound} buffer at part fits old new =
-    record {
-      each = λ k h.
-          let inside : k < length buffer = subst (λ (n : ℕ). k < n) (length-pasted buffer at part fits) h in
-          by-order k at
-          (λ l. subst (λ (x : ℕ). x < bound) (sym (getD-pasted-before buffer at part fits k 0 l)) (old .each k inside))
-          (λ g.
-          by-order k (at + length part)
-          (λ l.
-          let j : ℕ = k - at in
-          let e : at + j ≡ k = omega arith in
-          subst (λ (x : ℕ). x < bound)
-          (sym (getD-pasted-inside buffer at part fits j 0 (omega arith)) ∙ ap (λ (m : ℕ). getD (pasted buffer at part) m 0) e)
-          (new .each j (omega arith)))
-          (λ l. subst (λ (x : ℕ). x < bound) (sym (getD-pasted-after buffer at part fits k 0 l)) (old .each k inside)));
-    }

@@ -1,8 +1,10 @@
 -- Tests and what they say. Assumes nothing.
 use mathlib.Core.Path.{_≡_, refl, sym, ap, _∙_}
-use Prim.Native.Nat.{ℕ}
+use Prim.Native.Nat.{ℕ, zero, suc, _<_}
+use native.Mathlib.Nat.{not-suc-le-zero, le-of-suc-le-suc}
 use mathlib.Core.Bool.{Bool, true, false, _&&_, _||_, not, Bool·beq, or-assoc}
 use mathlib.Core.List.{List, [], _∷_, _++_}
+use lib.ListN.{length, getD}
 use lib.Dec.{ltb}
 use borrow.Author.Tests.{ltb-true}
 use native.Mathlib.Omega.{arith}
@@ -79,3 +81,13 @@ unfolding any
 any-append test [] back = refl
 any-append test (x ∷ xs) back =
     ap (λ (t : Bool). test x || t) (any-append test xs back) ∙ sym (or-assoc (test x) (any test xs) (any test back))
+
+-- A test that holds of no element fails at each.
+pub any-none {ℓ} : {A : Type ℓ} (test : A → Bool) (list : List A) → any test list ≡ false
+    → (k : ℕ) (d : A) → k < length list
+    → test (getD list k d) ≡ false
+unfolding any
+any-none test [] none k d h = absurd (not-suc-le-zero h)
+any-none test (x ∷ xs) none zero d h = or-neither (test x) _ none .0
+any-none test (x ∷ xs) none (suc k) d h =
+    any-none test xs (or-neither (test x) _ none .1) k d (le-of-suc-le-suc h)

@@ -1,5 +1,6 @@
--- Faults (01, Numbers of refusal): a row is a number and whether it fits. Nothing here has an order;
--- where a call answers the first fault that fits, the order is that of the list it is given.
+-- Faults (01, Numbers of refusal): a row is a number and whether it fits. Nothing here has an
+-- order; where a call answers the first fault that fits, the order is that of the list it is
+-- given.
 use Prim.Native.Nat.{ℕ}
 use mathlib.Core.Path.{_≡_}
 use mathlib.Core.Bool.{Bool, false}

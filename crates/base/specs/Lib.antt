@@ -4,5 +4,5 @@ pub mod Packed
 pub mod Groups
 pub mod Faults
 pub mod Place
-pub mod Scan
+pub mod Answer
 pub mod Paste

@@ -4,7 +4,7 @@ use mathlib.Core.Path.{_≡_}
 use mathlib.Core.Bool.{Bool, true, false, cond, _||_}
 use mathlib.Core.List.{List, [], _∷_, _++_}
 use lib.ListN.{length, getD, take, drop}
-use lib.Dec.{eqb}
+use lib.Dec.{ltb, eqb}
 
 -- The list f 0, f 1, .. of n elements.
 unfoldable pub build {ℓ} : {A : Type ℓ} (n : ℕ) (f : ℕ → A) → List A
@@ -14,6 +14,10 @@ build (suc n) f = f zero ∷ build n (λ k. f (suc k))
 -- The count elements of a list from index `from` on.
 abbrev pub part {ℓ} : {A : Type ℓ} (list : List A) (from count : ℕ) → List A
 part list from count = take count (drop from list)
+
+-- Whether a list ends before index `end`.
+abbrev pub endsBefore : (list : List ℕ) (end : ℕ) → Bool
+endsBefore list end = ltb (length list) end
 
 -- Whether a test holds of some element.
 unfoldable pub any {ℓ} : {A : Type ℓ} (test : A → Bool) (list : List A) → Bool

@@ -18,7 +18,8 @@ leBytes (suc width) number = number % 256 ∷ leBytes width (number / 256)
 
 -- Two's complement: a number below half of 2 ^ bits is itself, any other is itself less 2 ^ bits.
 unfoldable pub signed : (bits number : ℕ) → ℤ
-signed bits number = cond (ltb number (2 ^ (bits - 1))) (pos number) (negsuc (2 ^ bits - 1 - number))
+signed bits number =
+    cond (ltb number (2 ^ (bits - 1))) (pos number) (negsuc (2 ^ bits - 1 - number))
 
 -- A signed number as a count: 0 where it is negative, which is refused where the count is used.
 unfoldable pub nonNegative : (number : ℤ) → ℕ

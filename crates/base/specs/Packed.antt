@@ -1,5 +1,5 @@
--- Packed symbols (01, Records: packed letters start in the high bits): digits to a base, `per` of them
--- to a byte, the first highest. Bits are digits to the base 2, eight to a byte.
+-- Packed symbols (01, Records: packed letters start in the high bits): digits to a base, `per` of
+-- them to a byte, the first highest. Bits are digits to the base 2, eight to a byte.
 use Prim.Native.Nat.{ℕ, zero, suc, _+_, _-_, _*_, _/_, _%_, _^_}
 use mathlib.Core.Bool.{Bool}
 use mathlib.Core.List.{List}
@@ -31,7 +31,8 @@ symbolAt base per list i = digit base per (getD list (i / per) 0) (i % per)
 -- The bytes of a list of symbols; symbols that are missing from the last byte count as 0.
 unfoldable pub pack : (base per : ℕ) (symbols : List ℕ) → List ℕ
 pack base per symbols =
-    build (packedLength per (length symbols)) (λ j. byteOf base per (λ k. getD symbols (j * per + k) 0))
+    build (packedLength per (length symbols))
+    (λ j. byteOf base per (λ k. getD symbols (j * per + k) 0))
 
 -- The n symbols from symbol `from` on of what is packed from byte `at` on.
 unfoldable pub symbolsAt : (base per : ℕ) (list : List ℕ) (at from n : ℕ) → List ℕ

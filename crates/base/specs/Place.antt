@@ -1,4 +1,4 @@
--- What stands at a place of a list, by index. Only laws use it: it replaces rewriting of front ++ part ++ rest.
+-- What stands at a place of a list, by index. It replaces rewriting of front ++ part ++ rest.
 use Prim.Native.Nat.{ℕ, _+_, _≤_, _<_}
 use mathlib.Core.Path.{_≡_}
 use mathlib.Core.List.{List}

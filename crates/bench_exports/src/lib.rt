@@ -1,6 +1,7 @@
-// The writers of a stretch, the walk over the lengths and the writer of a size section under plain names, for the
-// benchmark alone (rust/bench). A caller that is not Rattle owes what each `requires` says: the benchmark makes its
-// tables by bench_fill_words, its stretches inside, and room by bench_sizes_length for at most 50,000 reads.
+// The writers of a stretch, the walk over the lengths and the writer of a size section under plain
+// names, for the benchmark alone (rust/bench). A caller that is not Rattle owes what each
+// `requires` says: the benchmark makes its tables by bench_fill_words, its stretches inside, and
+// room by bench_sizes_length for at most 50,000 reads.
 use lengths::lengths_fault;
 use lengths::write::put_sizes;
 use lengths::write::sizes_length;
@@ -17,7 +18,8 @@ ghost use Rattle.dna.specs.Reference.{stretchLetters};
 ghost use Rattle.dna.specs.Sizes.{sizeSectionBytes};
 ghost use Rattle.format.specs.HeaderFaults.{maxReads};
 ghost use Rattle.lengths.specs.Form.{storedOf};
-ghost use Rattle.lengths.specs.Given.{lengthsGiven, lengthsFound, lengthsNumber};
+ghost use Rattle.dna.specs.SizesAt.{lengthsGiven};
+ghost use Rattle.lengths.specs.Given.{lengthsFound, lengthsNumber};
 ghost use Rattle.reference.specs.Stretch.{StretchFits};
 ghost use Rattle.reference.specs.Tables.{wordTable};
 
@@ -38,8 +40,10 @@ pub extern "C" fn bench_put_stretch_forward(
     out: &mut [u8],
     at: usize,
 )
-    requires { ⌜ (StretchFits (now reference) leftmost bases) × (at + bases ≤ length (now out)) × (now table ≡ wordTable true) ⌝ }
-    ensures { λ _. ⌜ now (out .exit) ≡ pasted (now (out .entry)) at (stretchLetters (now (reference .entry)) true leftmost bases) ⌝ }
+    requires { ⌜ (StretchFits (now reference) leftmost bases) × (at + bases ≤ length (now out))
+        × (now table ≡ wordTable true) ⌝ }
+    ensures { λ _. ⌜ now (out .exit) ≡ pasted (now (out .entry)) at
+        (stretchLetters (now (reference .entry)) true leftmost bases) ⌝ }
 {
     put_stretch_forward(reference, leftmost, bases, table, out, at);
 }
@@ -53,8 +57,10 @@ pub extern "C" fn bench_put_stretch_reverse(
     out: &mut [u8],
     at: usize,
 )
-    requires { ⌜ (StretchFits (now reference) leftmost bases) × (at + bases ≤ length (now out)) × (now table ≡ wordTable false) ⌝ }
-    ensures { λ _. ⌜ now (out .exit) ≡ pasted (now (out .entry)) at (stretchLetters (now (reference .entry)) false leftmost bases) ⌝ }
+    requires { ⌜ (StretchFits (now reference) leftmost bases) × (at + bases ≤ length (now out))
+        × (now table ≡ wordTable false) ⌝ }
+    ensures { λ _. ⌜ now (out .exit) ≡ pasted (now (out .entry)) at
+        (stretchLetters (now (reference .entry)) false leftmost bases) ⌝ }
 {
     put_stretch_reverse(reference, leftmost, bases, table, out, at);
 }

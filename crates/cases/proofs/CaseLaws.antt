@@ -9,15 +9,8 @@ use lib.ListN.{length}
 use lib.Dec.{ltb, eqb}
 use borrow.Author.Tests.{lt-ltb, le-ltb, eq-eqb, ne-eqb, eqb-true, ltb-false}
 use Rattle.base.specs.Numbers.{le}
-use Rattle.cases.specs.CaseFile.{
-  fileHeaderLength,
-  fileMagic,
-  countAnswer,
-  caseHeaderLength,
-  caseFields,
-  caseSize,
-  caseAnswer,
-}
+use Rattle.cases.specs.CaseFile.{fileHeaderLength, fileMagic, countAnswer, caseHeaderLength}
+use Rattle.cases.specs.CaseFile.{caseFields, caseSize, caseAnswer}
 use Rattle.cases.specs.declared.case_file.CaseHeader.{CaseHeader}
 use Rattle.cases.specs.declared.case_file.CaseRead.{CaseRead}
 use Rattle.cases.specs.declared.case_file.CaseRead.the-variants as case

@@ -7,7 +7,7 @@ use cases::hash::HASH_START;
 use cases::hash::hash_number;
 use header::faults::header_fault;
 use header::fields::l_read;
-use header::fields::n_reads;
+use header::fields::read_count;
 use header::fields::same_length;
 use header::sections::SIZE_SECTION;
 use integers::wide64;
@@ -47,7 +47,7 @@ fn put_lengths(input: &[u8])
         return;
     }
     let first = lengths::first_cursor(same_length(input), l_read(input));
-    let reads = integers::non_negative(n_reads(input));
+    let reads = read_count(input);
     let summary = summarize(ora::section(input, SIZE_SECTION), first, reads);
     put_outcome(0, reads, summary);
 }

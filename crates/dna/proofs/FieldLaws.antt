@@ -7,42 +7,31 @@ use mathlib.Core.Bool.{false, _||_}
 use mathlib.Core.List.{List, [], _∷_, _++_, map, flatMap}
 use lib.ListN.{length, getD, length-append, length-map, List·getD-map, List·getD-append}
 use lib.Seq.{ext-getD, getD-append-add}
-use lib.Dec.{leb}
+use lib.Dec.{ltb, leb}
 use lib.Arith.{digits-div, digits-mod}
 use borrow.Author.Tests.{ltb-false, leb-false, le-ltb, lt-leb}
 use Rattle.base.specs.Lists.{any, Below, AllBytes, All}
 use Rattle.base.specs.Packed.{packedLength, pack, symbolsAt}
 use Rattle.base.specs.Place.{At}
-use Rattle.base.specs.Scan.{found}
-use Rattle.base.proofs.ListLaws.{length-build, getD-build, below-at, below-append, all-getD, all-build}
-use Rattle.base.proofs.PlaceLaws.{at-left, at-right, at-both, at-head, at-tail, at-cons, at-nil}
-use Rattle.base.proofs.PackedLaws.{
-  length-pack,
-  length-symbolsAt,
-  packedLength-holds,
-  packedLength-whole,
-  symbolsAt-pack,
-  symbolsAt-below,
-  pack-symbolsAt,
-  symbolsAt-append,
-}
+use Rattle.base.specs.Answer.{found}
+use Rattle.base.proofs.ListLaws.{length-build, getD-build, below-at, below-append, all-getD}
+use Rattle.base.proofs.ListLaws.{all-build}
+use Rattle.base.proofs.AtLaws.{at-left, at-right, at-both, at-head, at-tail, at-cons, at-nil}
+use Rattle.base.proofs.PackedLaws.{length-pack, length-symbolsAt, packedLength-holds}
+use Rattle.base.proofs.PackedLaws.{packedLength-whole, symbolsAt-pack, symbolsAt-below}
+use Rattle.base.proofs.PackedLaws.{pack-symbolsAt, symbolsAt-append}
 use Rattle.base.proofs.Tests.{or-neither, neither-or}
-use Rattle.base.proofs.ScanLaws.{found-same, checked-none, checked-found, andThen-found, andThen-parts}
+use Rattle.base.proofs.AnswerLaws.{found-same, checked-none, checked-found, andThen-found}
+use Rattle.base.proofs.AnswerLaws.{andThen-parts}
 use Rattle.dna.specs.Varint16.{varint16Bytes}
-use Rattle.dna.specs.Record.{
-  ReadContext,
-  Entry,
-  EntryFits,
-  PackedCodes,
-  PackedFits,
-  entryByte,
-  packedBytes,
-  nListBytes,
-}
+use Rattle.dna.specs.Record.{ReadContext, Entry, EntryFits, PackedCodes, PackedFits}
+use Rattle.dna.specs.Record.{entryByte, packedBytes, nListBytes}
 use Rattle.dna.specs.Alignment.{nPositions}
 use Rattle.dna.specs.RecordFaults.{laterZero, nCountInvalid, nListInvalid}
-use Rattle.dna.specs.RecordAt.{entryOf, entriesAt, packedAt, varint16At, wordsFor, offsetsAt, nListAt}
-use Rattle.dna.proofs.OffsetLaws.{Steps, tests-steps, steps-tests}
+use Rattle.dna.specs.Varint16At.{varint16At, wordsFor}
+use Rattle.dna.specs.RecordAt.{entryOf, entriesAt, packedAt, offsetsAt, nListAt}
+use Rattle.dna.specs.Rules.{Steps}
+use Rattle.dna.proofs.OffsetLaws.{tests-steps, steps-tests}
 use Rattle.dna.proofs.VarintLaws.{varint16-find, Varint, varint16-found}
 
 -- ---- Entries
@@ -161,7 +150,7 @@ offsets-find [] bound least place s a = ap (found []) (omega arith)
 offsets-find (offset ∷ offsets) {list} bound least place {at} s a =
     let back : List ℕ = flatMap varint16Bytes offsets in
     andThen-found _ (varint16-find offset bound place (s .1) (at-left (varint16Bytes offset) back a))
-    (checked-none _ _ (neither-or _ _ (le-ltb offset least (s .0)) refl)
+    (checked-none _ _ _ (neither-or _ _ (le-ltb offset least (s .0)) refl)
     ∙ andThen-found _ (offsets-find offsets bound 1 (place + offset) (s .2) (at-right (varint16Bytes offset) back a))
     (ap (found (offset ∷ offsets)) (omega (arith, length-append (varint16Bytes offset) back))))
 
@@ -183,7 +172,7 @@ offsets-found (suc count) {list} bound least place at {offsets} {next} bytes h e
     = λ p m os j. offsets-found count bound 1 p m bytes in
     andThen-parts (varint16At (wordsFor bound) bound place list at) _ e (λ offset k e₁ e₂.
     let v : Varint list bound place at offset k = varint16-found (wordsFor bound) bound place at bytes e₁ in
-    let parts = checked-found _ _ e₂ in
+    let parts = checked-found (λ n. n) _ _ e₂ in
     let least-ok = or-neither _ _ (parts .0) in
     andThen-parts (offsetsAt count bound 1 (place + offset) list k) _ (parts .1) (λ os j e₃ e₄.
     let more : Offsets list count bound 1 (place + offset) k os j = ih (place + offset) k os j (omega (arith, v .ends, v .stands .fits)) e₃ in
@@ -197,14 +186,14 @@ offsets-found (suc count) {list} bound least place at {offsets} {next} bytes h e
     })))
 
 pub nList-find : (context : ReadContext) (offsets : List ℕ) {list : List ℕ} {at : ℕ} → nListInvalid context offsets ≡ false
-    → At list at (nListBytes offsets) → nListAt context list at ≡ found offsets (at + length (nListBytes offsets))
+    → At list at (nListBytes offsets) → nListAt (context .readLength) list at ≡ found offsets (at + length (nListBytes offsets))
 unfolding nListAt nListBytes nListInvalid nPositions any
 nList-find context offsets {list} {at} valid a =
     let parts = or-neither (nCountInvalid (length offsets)) _ valid in
     let tests = or-neither (laterZero offsets) _ (parts .1) in
     let n : getD list at 0 ≡ length offsets = at-head a in
-    checked-none _ _
-    (neither-or _ _ (lt-leb (length list) at (omega (arith, a .fits)))
+    checked-none _ _ _
+    (neither-or _ _ (le-ltb (length list) (at + 1) (omega (arith, a .fits)))
     (neither-or _ _ (ap nCountInvalid n ∙ parts .0) refl))
     ∙ ap (λ (c : ℕ). offsetsAt c (context .readLength) 0 0 list (at + 1)) n
     ∙ offsets-find offsets (context .readLength) 0 0 (tests-steps (context .readLength) offsets (tests .0) (tests .1)) (at-tail a)
@@ -217,13 +206,13 @@ pub record NList (context : ReadContext) (list : List ℕ) (at : ℕ) (offsets :
   pub ends : next ≡ at + length (nListBytes offsets)
 
 pub nList-found : (context : ReadContext) {list : List ℕ} (at : ℕ) {offsets : List ℕ} {next : ℕ} → AllBytes list
-    → nListAt context list at ≡ found offsets next → NList context list at offsets next
+    → nListAt (context .readLength) list at ≡ found offsets next → NList context list at offsets next
 unfolding nListAt nListBytes nListInvalid nPositions any
 nList-found context {list} at {offsets} {next} bytes e =
-    let parts = checked-found _ _ e in
-    let first : (leb (length list) at ≡ false) × (nCountInvalid (getD list at 0) || false ≡ false) = or-neither _ _ (parts .0) in
+    let parts = checked-found (λ n. n) _ _ e in
+    let first : (ltb (length list) (at + 1) ≡ false) × (nCountInvalid (getD list at 0) || false ≡ false) = or-neither _ _ (parts .0) in
     let second : (nCountInvalid (getD list at 0) ≡ false) × (false ≡ false) = or-neither _ _ (first .1) in
-    let fits : at < length list = leb-false (length list) at (first .0) in
+    let fits : at + 1 ≤ length list = ltb-false (length list) (at + 1) (first .0) in
     let f : Offsets list (getD list at 0) (context .readLength) 0 0 (at + 1) offsets next
     = offsets-found (getD list at 0) (context .readLength) 0 0 (at + 1) bytes (omega arith) (parts .1) in
     let tests = steps-tests (context .readLength) offsets (f .steps) in
@@ -231,6 +220,6 @@ nList-found context {list} at {offsets} {next} bytes e =
       count = omega (arith, f .counted, below-at list (omega arith) bytes at);
       valid =
           neither-or _ _ (ap nCountInvalid (f .counted) ∙ second .0) (neither-or _ _ (tests .0) (tests .1));
-      stands = at-cons (length offsets) (sym (f .counted)) fits (f .stands);
+      stands = at-cons (length offsets) (sym (f .counted)) (omega arith) (f .stands);
       ends = omega (arith, f .ends);
     }

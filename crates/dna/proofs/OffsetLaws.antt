@@ -12,12 +12,7 @@ use borrow.Author.Tests.{eqb-false, lt-leb, leb-false, eq-eqb, ne-eqb}
 use Rattle.base.specs.Lists.{any, member, indexOf, placesFrom}
 use Rattle.base.proofs.Tests.{or-neither, neither-or, or-right}
 use Rattle.dna.specs.RecordFaults.{laterZero, anyOutside}
-
--- Each offset is at least `least` (1 after the first), and the place it leads to is below the bound.
-abbrev pub Steps : (bound least place : ℕ) (offsets : List ℕ) → Type 0
-Steps bound least place [] = Unit {0}
-Steps bound least place (offset ∷ offsets) =
-    (least ≤ offset) × (place + offset < bound) × Steps bound 1 (place + offset) offsets
+use Rattle.dna.specs.Rules.{Steps}
 
 later-steps : (bound place : ℕ) (offsets : List ℕ) → member 0 offsets ≡ false → anyOutside bound (placesFrom place offsets) ≡ false
     → Steps bound 1 place offsets
@@ -60,11 +55,6 @@ steps-tests bound (offset ∷ offsets) s =
     (more .0, neither-or (leb bound (0 + offset)) _ (lt-leb bound (0 + offset) (s .1)) (more .1))
 
 -- ---- Places rise
-
-pub length-placesFrom : (start : ℕ) (steps : List ℕ) → length (placesFrom start steps) ≡ length steps
-unfolding placesFrom
-length-placesFrom start [] = refl
-length-placesFrom start (step ∷ steps) = ap suc (length-placesFrom (start + step) steps)
 
 -- A place lies inside the bound.
 pub place-inside : (bound least start : ℕ) (offsets : List ℕ) → Steps bound least start offsets → (j : ℕ) → j < length offsets

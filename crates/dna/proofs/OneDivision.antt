@@ -4,12 +4,12 @@ use mathlib.Core.Path.{sym, _∙_}
 use Prim.Native.Nat.{ℕ}
 use mathlib.Core.List.{List}
 use Rattle.dna.specs.Division.{Division, SameDivision, Divides}
-use Rattle.dna.proofs.WalkLaws.{walked-same}
-use Rattle.dna.proofs.WalkFinds.{divides-walk}
+use Rattle.base.proofs.AnswerLaws.{found-same}
+use Rattle.dna.proofs.WalkComplete.{divides-walk}
 
 -- Any two divisions of the same DNA section, for the same lengths and N section, that meet the rules are the
 -- same: what a reader finds there is the only thing that anyone could find.
 pub one-division : (bases : ℕ) (lengths nSection dna : List ℕ) (one other : Division) → Divides bases lengths nSection dna one
     → Divides bases lengths nSection dna other → SameDivision one other
 one-division bases lengths nSection dna one other d e =
-    walked-same (sym (divides-walk bases lengths nSection dna one d) ∙ divides-walk bases lengths nSection dna other e) .0
+    found-same (sym (divides-walk bases lengths nSection dna one d) ∙ divides-walk bases lengths nSection dna other e) .0

@@ -9,31 +9,11 @@ use Rattle.base.proofs.ListLaws.{below-nil, below-cons, below-append}
 use Rattle.base.proofs.NumberLaws.{leBytes-bytes}
 use Rattle.base.proofs.PackedLaws.{pack-below}
 use Rattle.dna.specs.Varint16.{varint16Bytes}
-use Rattle.dna.specs.Record.{
-  ReadContext,
-  Entry,
-  EntryFits,
-  PackedCodes,
-  PackedFits,
-  RecordFields,
-  perfect,
-  global,
-  local,
-  raw,
-  raw4,
-  StoredRecord,
-  fieldWidth,
-  entryByte,
-  packedBytes,
-  flagByteOf,
-  fieldsBytes,
-  hasNList,
-  nListBytes,
-  recordBytes,
-  FieldsFit,
-  NListFits,
-  RecordFits,
-}
+use Rattle.dna.specs.Record.{ReadContext, Entry, EntryFits, PackedCodes, PackedFits}
+use Rattle.dna.specs.Record.{RecordFields, perfect, global, local, raw, raw4, StoredRecord}
+use Rattle.dna.specs.Record.{fieldWidth, entryByte, packedBytes, flagByteOf, fieldsBytes}
+use Rattle.dna.specs.Record.{hasNList, nListBytes, recordBytes, FieldsFit, NListFits}
+use Rattle.dna.specs.Record.{RecordFits}
 use Rattle.dna.proofs.SizeLaws.{flatMap-bytes, varint16-bytes}
 
 entries-bytes : (entries : List Entry) → All EntryFits entries → AllBytes (map entryByte entries)

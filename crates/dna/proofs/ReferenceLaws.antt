@@ -13,17 +13,9 @@ use Rattle.base.specs.Packed.{symbolAt}
 use Rattle.base.proofs.ListLaws.{length-build, getD-build, build-cong, below-build}
 use Rattle.base.proofs.Tests.{or-neither, not-false}
 use Rattle.base.proofs.PackedLaws.{digit-below}
-use Rattle.dna.specs.Reference.{
-  maxReferenceBases,
-  referenceSizeWrong,
-  ReferenceFits,
-  referenceBase,
-  complement,
-  strandBase,
-  stretchIndex,
-  letterOfCode,
-  stretchLetters,
-}
+use Rattle.dna.specs.Reference.{maxReferenceBases, referenceSizeWrong, ReferenceFits}
+use Rattle.dna.specs.Reference.{referenceBase, complement, strandBase, stretchIndex}
+use Rattle.dna.specs.Reference.{letterOfCode, stretchLetters}
 
 -- ---- The size
 

@@ -1,5 +1,4 @@
--- What it means that none of 13 to 20 fits a record (01, Records): the rules as propositions, one for each sentence.
--- Assumes nothing.
+-- None of 13 to 20 fits a record exactly if the rules hold of it. Assumes nothing.
 use mathlib.Core.Path.{_≡_, refl, ap, _∙_}
 use Prim.Native.Nat.{ℕ, suc, _+_, _*_, _/_, _%_, _≤_, _<_}
 use native.Mathlib.Omega.{arith}
@@ -11,57 +10,25 @@ use lib.Dec.{ltb, eqb}
 use borrow.Author.Tests.{ltb-false, leb-false, eqb-true, eqb-false, le-ltb, lt-leb, eq-eqb, ne-eqb}
 use Rattle.base.specs.Lists.{any, member, Below}
 use Rattle.base.specs.Packed.{bit, digit}
+use Rattle.base.specs.Groups.{byteBitStray}
 use Rattle.base.specs.Faults.{NoneFits}
+use Rattle.base.proofs.BitLaws.{stray-clear, clear-stray}
 use Rattle.base.proofs.ListLaws.{by-test, below-nil, below-cons}
-use Rattle.base.proofs.Tests.{or-neither, neither-or, and-first, not-false, true-not, beq-same, same-beq}
-use Rattle.dna.specs.Record.{ReadContext, RecordFields, perfect, global, local, raw, raw4, StoredRecord, flagByteOf, hasNList}
-use Rattle.dna.specs.Alignment.{isAligned, entriesOf, alignedLength, leftmostOf, entryPlaces, nPositions}
-use Rattle.dna.specs.RecordFaults.{raw4Codes, paddingOf, rawBitStray, recordFlagInvalid, spanOutside, clipsInvalid, laterZero, entryOffsetInvalid, baseCodeInvalid, paddingNonzero, raw4BitWrong, nCountInvalid, nListInvalid, fieldFaults, recordFaults}
-use Rattle.dna.proofs.OffsetLaws.{Steps, tests-steps, steps-tests}
-use Rattle.dna.proofs.RecordFinds.{Faultless, faults-parts, parts-faults}
-
--- A global record has 1 to 31 entries, of which the upper bound is the width of its count.
-abbrev pub CountHolds : (context : ReadContext) (fields : RecordFields) → Type 0
-CountHolds context (perfect field) = Unit {0}
-CountHolds context (global field entries) = context .perfectBit ≡ false → 1 ≤ length entries
-CountHolds context (local field entries left right clipped) = Unit {0}
-CountHolds context (raw letters) = Unit {0}
-CountHolds context (raw4 letters) = Unit {0}
-
--- left + right of a local record is at least 1 and below the length.
-abbrev pub ClipsHold : (context : ReadContext) (fields : RecordFields) → Type 0
-ClipsHold context (perfect field) = Unit {0}
-ClipsHold context (global field entries) = Unit {0}
-ClipsHold context (local field entries left right clipped) = (1 ≤ left + right) × (left + right < context .readLength)
-ClipsHold context (raw letters) = Unit {0}
-ClipsHold context (raw4 letters) = Unit {0}
-
--- The bit of a raw4 record is set exactly if it holds an N.
-abbrev pub Raw4BitHolds : (context : ReadContext) (fields : RecordFields) → Type 0
-Raw4BitHolds context (perfect field) = Unit {0}
-Raw4BitHolds context (global field entries) = Unit {0}
-Raw4BitHolds context (local field entries left right clipped) = Unit {0}
-Raw4BitHolds context (raw letters) = Unit {0}
-Raw4BitHolds context (raw4 letters) = context .withN ≡ member 4 (letters .codes)
-
--- An N list has 1 to 31 positions, each later offset at least 1, all inside the read.
-pub record NListHolds (readLength : ℕ) (offsets : List ℕ) : Type 0 where
-  pub some : 1 ≤ length offsets
-  pub most : length offsets ≤ 31
-  pub steps : Steps readLength 0 0 offsets
-
--- The rules of a record, a field for each sentence.
-pub record RulesHold (context : ReadContext) (stored : StoredRecord) : Type 0 where
-  pub count : CountHolds context (stored .fields)
-  pub rawBits : isAligned (stored .fields) ≡ false → (context .forward ≡ false) × (context .incremental ≡ false)
-  pub clips : ClipsHold context (stored .fields)
-  pub inside : isAligned (stored .fields) ≡ true
-      → leftmostOf context (stored .fields) + alignedLength context (stored .fields) ≤ context .referenceBases
-  pub entries : Steps (alignedLength context (stored .fields)) 0 0 (map (λ entry. entry .offset) (entriesOf (stored .fields)))
-  pub codes : Below 5 (raw4Codes (stored .fields))
-  pub padding : Below 1 (paddingOf (stored .fields))
-  pub raw4Bit : Raw4BitHolds context (stored .fields)
-  pub nList : hasNList context (stored .fields) ≡ true → NListHolds (context .readLength) (stored .nOffsets)
+use Rattle.base.proofs.Tests.{or-neither, neither-or, and-first, not-false, true-not, beq-same}
+use Rattle.base.proofs.Tests.{same-beq}
+use Rattle.dna.specs.Record.{ReadContext, RecordFields, perfect, global, local, raw, raw4}
+use Rattle.dna.specs.Record.{StoredRecord, flagByteOf, hasNList}
+use Rattle.dna.specs.Alignment.{isAligned, entriesOf, alignedLength, leftmost, entryPlaces}
+use Rattle.dna.specs.Alignment.{nPositions}
+use Rattle.dna.specs.RecordFaults.{raw4Codes, paddingOf, rawBitStray, recordFlagInvalid}
+use Rattle.dna.specs.RecordFaults.{spanOutside, clipsInvalid, laterZero, entryOffsetInvalid}
+use Rattle.dna.specs.RecordFaults.{baseCodeInvalid, paddingNonzero, raw4BitWrong}
+use Rattle.dna.specs.RecordFaults.{nCountInvalid, nListInvalid, fieldFaults, recordFaults}
+use Rattle.dna.specs.Division.{GroupFlags, groupBitStray}
+use Rattle.dna.specs.Rules.{Steps, CountHolds, ClipsHold, Raw4BitHolds, NListHolds, RulesHold}
+use Rattle.dna.specs.Rules.{GroupBitsHold}
+use Rattle.dna.proofs.OffsetLaws.{tests-steps, steps-tests}
+use Rattle.dna.proofs.RecordComplete.{Faultless, faults-parts, parts-faults}
 
 -- ---- Each test and its rule
 
@@ -154,18 +121,18 @@ hold-clips context (raw letters) h = refl
 hold-clips context (raw4 letters) h = refl
 
 inside-span : (context : ReadContext) (fields : RecordFields) → spanOutside context fields ≡ false → isAligned fields ≡ true
-    → leftmostOf context fields + alignedLength context fields ≤ context .referenceBases
+    → leftmost context fields + alignedLength context fields ≤ context .referenceBases
 unfolding spanOutside
 inside-span context fields e is = ltb-false (context .referenceBases) _ (and-first (isAligned fields) _ e is)
 
 span-inside : (context : ReadContext) (fields : RecordFields)
-    → (isAligned fields ≡ true → leftmostOf context fields + alignedLength context fields ≤ context .referenceBases)
+    → (isAligned fields ≡ true → leftmost context fields + alignedLength context fields ≤ context .referenceBases)
     → spanOutside context fields ≡ false
 unfolding spanOutside
 span-inside context fields h =
-    let outside : Bool = ltb (context .referenceBases) (leftmostOf context fields + alignedLength context fields) in
+    let outside : Bool = ltb (context .referenceBases) (leftmost context fields + alignedLength context fields) in
     by-test (isAligned fields)
-    (λ t. ap (λ (b : Bool). b && outside) t ∙ le-ltb (context .referenceBases) (leftmostOf context fields + alignedLength context fields) (h t))
+    (λ t. ap (λ (b : Bool). b && outside) t ∙ le-ltb (context .referenceBases) (leftmost context fields + alignedLength context fields) (h t))
     (λ t. ap (λ (b : Bool). b && outside) t)
 
 any-below : (bound : ℕ) (list : List ℕ) → any (λ x. ltb bound x) list ≡ false → Below (suc bound) list
@@ -285,4 +252,24 @@ pub rules-mean : (context : ReadContext) (stored : StoredRecord) → NoneFits (r
 rules-mean context stored = (
   λ none. faultless-rules context stored (faults-parts context stored none),
   λ rules. parts-faults context stored (rules-faultless context stored rules),
+)
+
+-- No group byte has a stray bit exactly if the bits past the last read are 0 in each.
+pub group-bits-mean : (count : ℕ) (flags : GroupFlags) → (groupBitStray count flags ≡ false) ↔ GroupBitsHold count flags
+unfolding groupBitStray
+group-bits-mean count flags = (
+  λ e.
+      let first = or-neither (byteBitStray count (flags .perfect)) _ e in
+      let second = or-neither (byteBitStray count (flags .forward)) _ (first .1) in
+      let third = or-neither (byteBitStray count (flags .withN)) _ (second .1) in
+      record {
+        perfect = stray-clear count (flags .perfect) (first .0);
+        forward = stray-clear count (flags .forward) (second .0);
+        withN = stray-clear count (flags .withN) (third .0);
+        incremental = stray-clear count (flags .incremental) (third .1);
+      },
+  λ h.
+      neither-or _ _ (clear-stray count (flags .perfect) (h .perfect))
+      (neither-or _ _ (clear-stray count (flags .forward) (h .forward))
+      (neither-or _ _ (clear-stray count (flags .withN) (h .withN)) (clear-stray count (flags .incremental) (h .incremental)))),
 )

@@ -3,16 +3,8 @@ use mathlib.Core.Path.{_≡_, refl, sym, ap, ap₂, _∙_}
 use Prim.Native.Nat.{ℕ, suc, _+_, _-_, _*_, _/_, _%_, _≤_, _<_}
 use native.Mathlib.Omega.{arith}
 use mathlib.Core.List.{List, [], _∷_, _++_, map, flatMap, append-nil}
-use lib.ListN.{
-  length,
-  take,
-  drop,
-  replicate,
-  length-append,
-  length-drop,
-  length-replicate,
-  take-append-drop,
-}
+use lib.ListN.{length, take, drop, replicate, length-append, length-drop, length-replicate}
+use lib.ListN.{take-append-drop}
 use Rattle.base.specs.Lists.{total}
 use Rattle.base.specs.Numbers.{leBytes}
 use Rattle.base.specs.Groups.{groupCount}

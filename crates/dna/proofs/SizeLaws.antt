@@ -4,24 +4,15 @@ use mathlib.Core.Bool.{Bool, false}
 use mathlib.Core.List.{List, [], _∷_, map, flatMap}
 use lib.ListN.{getD}
 use Rattle.base.specs.Lists.{AllBytes, All}
-use Rattle.base.specs.Groups.{inGroups}
+use Rattle.base.specs.Groups.{inGroups, flagByte}
 use Rattle.base.proofs.ListLaws.{below-nil, below-cons, below-append}
 use Rattle.base.proofs.GroupLaws.{all-inGroups}
-use Rattle.base.proofs.BitLaws.{cond-small}
+use Rattle.base.proofs.FlagByteLaws.{flagByte-byte}
 use Rattle.base.proofs.NumberLaws.{leBytes-bytes}
 use Rattle.base.proofs.PackedLaws.{byteOf-below}
 use Rattle.dna.specs.Varint16.{varint16Words, varint16Bytes}
-use Rattle.dna.specs.Sizes.{
-  StoredSize,
-  same,
-  inByte,
-  inWords,
-  storedBytes,
-  flagByte,
-  sizeGroupBytes,
-  sizeSectionBytes,
-  StoredFits,
-}
+use Rattle.dna.specs.Sizes.{StoredSize, same, inByte, inWords, storedBytes, sizeGroupBytes}
+use Rattle.dna.specs.Sizes.{sizeSectionBytes, StoredFits}
 
 -- Bytes of a list, element by element.
 pub flatMap-bytes {ℓ} : {A : Type ℓ} (f : A → List ℕ) (list : List A) → ((x : A) → AllBytes (f x)) → AllBytes (flatMap f list)
@@ -44,11 +35,6 @@ unfolding flatMap
 group-bytes [] h = below-nil 256
 group-bytes (stored ∷ group) h =
     below-append (storedBytes stored) (flatMap storedBytes group) (stored-bytes stored (h .0)) (group-bytes group (h .1))
-
-flagByte-byte : (test : StoredSize → Bool) (group : List StoredSize) → flagByte test group < 256
-unfolding flagByte
-flagByte-byte test group =
-    byteOf-below 2 8 _ (λ k h. cond-small (getD (map test group) k false))
 
 sizeGroup-bytes : (group : List StoredSize) → All StoredFits group → AllBytes (sizeGroupBytes group)
 unfolding sizeGroupBytes

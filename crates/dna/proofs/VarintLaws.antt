@@ -9,13 +9,14 @@ use borrow.Author.Tests.{eqb-true, eqb-false, ltb-false, leb-false, le-ltb, lt-l
 use Rattle.base.specs.Lists.{any, AllBytes}
 use Rattle.base.specs.Numbers.{le, leBytes}
 use Rattle.base.specs.Place.{At}
-use Rattle.base.specs.Scan.{found}
-use Rattle.base.proofs.PlaceLaws.{at-left, at-right, at-both}
+use Rattle.base.specs.Answer.{found}
+use Rattle.base.proofs.AtLaws.{at-left, at-right, at-both}
 use Rattle.base.proofs.NumberLaws.{length-leBytes, le-leBytes, leBytes-le}
 use Rattle.base.proofs.Tests.{or-neither, neither-or}
-use Rattle.base.proofs.ScanLaws.{found-same, absurd-found, checked-none, checked-found, andThen-found, andThen-parts, cond-parts}
+use Rattle.base.proofs.AnswerLaws.{found-same, absurd-found, checked-none, checked-found}
+use Rattle.base.proofs.AnswerLaws.{andThen-found, andThen-parts, cond-parts}
 use Rattle.dna.specs.Varint16.{varint16Words, varint16Bytes}
-use Rattle.dna.specs.RecordAt.{varint16At, wordsFor}
+use Rattle.dna.specs.Varint16At.{varint16At, wordsFor}
 
 -- The bytes of so many words of 32768 and a last one.
 wordsBytes : (full last : ℕ) → List ℕ
@@ -41,7 +42,7 @@ unfolding wordsBytes varint16At any
 words-find zero full last bound place h small inside a = absurd (omega arith)
 words-find (suc words) zero last {list} bound place {at} h small inside a =
     let w : le 2 list at ≡ last = le-leBytes 2 last (omega arith) a in
-    checked-none _ _
+    checked-none _ _ _
     (neither-or _ _ (le-ltb (length list) (at + 2) (omega (arith, a .fits, word-length last)))
     (neither-or _ _ (le-ltb 32768 (le 2 list at) (omega arith))
     (neither-or _ _ (lt-leb bound (place + le 2 list at) (omega arith)) refl)))
@@ -49,7 +50,7 @@ words-find (suc words) zero last {list} bound place {at} h small inside a =
 words-find (suc words) (suc full) last {list} bound place {at} h small inside a =
     let w : le 2 list at ≡ 32768 = le-leBytes 2 32768 (omega arith) (at-left (leBytes 2 32768) (wordsBytes full last) a) in
     let n : length (leBytes 2 32768) ≡ 2 = word-length 32768 in
-    checked-none _ _
+    checked-none _ _ _
     (neither-or _ _ (le-ltb (length list) (at + 2) (omega (arith, a .fits, length-append (leBytes 2 32768) (wordsBytes full last))))
     (neither-or _ _ (le-ltb 32768 (le 2 list at) (omega arith))
     (neither-or _ _ (lt-leb bound (place + le 2 list at) (omega arith)) refl)))
@@ -75,7 +76,7 @@ unfolding varint16At wordsBytes any
 words-found zero bound place at bytes e = absurd-found e
 words-found (suc words) {list} bound place at {number} {next} bytes e =
     let ih : (p m o j : ℕ) → varint16At words bound p list m ≡ found o j → Words list bound p m o j = λ p m o j. words-found words bound p m bytes in
-    let parts = checked-found _ _ e in
+    let parts = checked-found (λ n. n) _ _ e in
     let first = or-neither _ _ (parts .0) in
     let second = or-neither _ _ (first .1) in
     let third = or-neither _ _ (second .1) in

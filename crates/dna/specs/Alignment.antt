@@ -1,21 +1,13 @@
--- Where an aligned read lies (01, Records: position, reverse reads, offsets). Three numbers are kept apart:
--- the field, as stored; the position, which the next read's step adds to; and the leftmost index of the
--- aligned stretch.
+-- Where an aligned read lies (01, Records: position, reverse reads, offsets). Three numbers are
+-- kept apart: the field, as stored; the position, which the next read's step adds to; and the
+-- leftmost index of the aligned stretch.
 use Prim.Native.Nat.{ℕ, _+_, _-_}
 use mathlib.Core.Bool.{Bool, true, false, cond}
 use mathlib.Core.List.{List, [], map}
 use Rattle.base.specs.Lists.{placesFrom}
 use Rattle.dna.specs.Reference.{stretchIndex}
-use Rattle.dna.specs.Record.{
-  ReadContext,
-  Entry,
-  RecordFields,
-  perfect,
-  global,
-  local,
-  raw,
-  raw4,
-}
+use Rattle.dna.specs.Record.{ReadContext, Entry, RecordFields, perfect, global, local, raw}
+use Rattle.dna.specs.Record.{raw4}
 
 -- Whether the kind has a place on the reference.
 unfoldable pub isAligned : (fields : RecordFields) → Bool
@@ -61,30 +53,29 @@ rightOf (raw4 letters) = 0
 unfoldable pub alignedLength : (context : ReadContext) (fields : RecordFields) → ℕ
 alignedLength context fields = context .readLength - (leftOf fields + rightOf fields)
 
--- The position: the field, or with pos_t set the field added to the position before. The sum is exact.
+-- The position: the field, or with pos_t set the field added to the position before. The sum is
+-- exact.
 unfoldable pub position : (context : ReadContext) (fields : RecordFields) → ℕ
-position context fields = cond (context .incremental) (context .previousPosition) 0 + fieldOf fields
+position context fields =
+    cond (context .incremental) (context .previousPosition) 0 + fieldOf fields
 
 -- The position that the next read's step adds to: a record without a place keeps the one before it.
 unfoldable pub positionAfter : (context : ReadContext) (fields : RecordFields) → ℕ
-positionAfter context fields = cond (isAligned fields) (position context fields) (context .previousPosition)
+positionAfter context fields =
+    cond (isAligned fields) (position context fields) (context .previousPosition)
 
--- The lowest reference index of the aligned stretch (01: its position), for both strands and every length.
-unfoldable pub leftmost : (forward : Bool) (aligned position : ℕ) → ℕ
-leftmost forward aligned position = position
-
--- The leftmost index of a record.
-unfoldable pub leftmostOf : (context : ReadContext) (fields : RecordFields) → ℕ
-leftmostOf context fields =
-    leftmost (context .forward) (alignedLength context fields) (position context fields)
+-- The lowest reference index of the aligned stretch (01: its position), for both strands and every
+-- kind.
+unfoldable pub leftmost : (context : ReadContext) (fields : RecordFields) → ℕ
+leftmost context fields = position context fields
 
 -- The reference index under aligned letter k, counted as the read is printed.
 unfoldable pub referenceIndex : (context : ReadContext) (fields : RecordFields) (k : ℕ) → ℕ
 referenceIndex context fields k =
-    stretchIndex (context .forward) (leftmostOf context fields) (alignedLength context fields) k
+    stretchIndex (context .forward) (leftmost context fields) (alignedLength context fields) k
 
--- The aligned letters that the entries stand on: each offset counts from the entry before, the first from
--- the first aligned letter.
+-- The aligned letters that the entries stand on: each offset counts from the entry before, the
+-- first from the first aligned letter.
 unfoldable pub entryPlaces : (fields : RecordFields) → List ℕ
 entryPlaces fields = placesFrom 0 (map (λ entry. entry .offset) (entriesOf fields))
 

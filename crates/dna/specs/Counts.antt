@@ -1,4 +1,5 @@
--- Counts (01, Records: counts of a block): reads, letters, entries and differences, sums over the reads.
+-- Counts (01, Records: counts of a block): reads, letters, entries and differences, sums over the
+-- reads.
 use Prim.Native.Nat.{ℕ, _+_}
 use mathlib.Core.Bool.{Bool, not, _&&_}
 use mathlib.Core.List.{List, map, foldr}
@@ -35,7 +36,8 @@ unfoldable pub sumCounts : (list : List Counted) → Counted
 sumCounts list = foldr plus zeroCounts list
 
 -- 01: a filler is an entry equal to what the reference gives there.
-unfoldable pub isFiller : (reference : List ℕ) (context : ReadContext) (fields : RecordFields) (number : ℕ) → Bool
+unfoldable pub isFiller : (reference : List ℕ) (context : ReadContext) (fields : RecordFields)
+    (number : ℕ) → Bool
 isFiller reference context fields number =
     eqb (getD (map (λ entry. entry .code) (entriesOf fields)) number 0)
     (strandBase reference (context .forward)
@@ -48,18 +50,21 @@ isUnderN stored number =
     (nPositions (stored .nOffsets))
 
 -- 01: differences are entries that aren't fillers and don't stand under an N.
-unfoldable pub isDifference : (reference : List ℕ) (context : ReadContext) (stored : StoredRecord) (number : ℕ)
-    → Bool
+unfoldable pub isDifference : (reference : List ℕ) (context : ReadContext)
+    (stored : StoredRecord) (number : ℕ) → Bool
 isDifference reference context stored number =
-    not (isFiller reference context (stored .fields) number) && not (isUnderN stored number)
+    not (isFiller reference context (stored .fields) number)
+    && not (isUnderN stored number)
 
 -- The counts of one read.
-unfoldable pub recordCounts : (reference : List ℕ) (context : ReadContext) (stored : StoredRecord) → Counted
+unfoldable pub recordCounts : (reference : List ℕ) (context : ReadContext)
+    (stored : StoredRecord) → Counted
 recordCounts reference context stored =
     record {
       reads = 1;
       letters = context .readLength;
       entries = length (entriesOf (stored .fields));
       differences =
-          countTrue (build (length (entriesOf (stored .fields))) (isDifference reference context stored));
+          countTrue
+          (build (length (entriesOf (stored .fields))) (isDifference reference context stored));
     }

@@ -1,10 +1,11 @@
--- Divisions (01, The desk's material and Records): the DNA section cut into four bytes for each group and
--- after them one record for each of its reads. No walk over bytes defines them.
-use Prim.Native.Nat.{ℕ, suc}
+-- Divisions (01, The desk's material and Records): the DNA section cut into four bytes for each
+-- group and after them one record for each of its reads. No walk over bytes defines them.
+use Prim.Native.Nat.{ℕ, suc, _+_}
 use mathlib.Core.Path.{_≡_}
-use mathlib.Core.Bool.{Bool, false, _||_}
+use mathlib.Core.Bool.{Bool, false, not, _||_}
 use mathlib.Core.List.{List, [], _∷_, _++_, map, flatMap}
-use lib.ListN.{length}
+use lib.ListN.{length, getD}
+use lib.Dec.{eqb}
 use Rattle.base.specs.Lists.{All, placesFrom}
 use Rattle.base.specs.Groups.{inGroups, byteBitStray}
 use Rattle.base.specs.Packed.{bit}
@@ -21,6 +22,16 @@ pub record GroupFlags : Type 0 where
   pub forward : ℕ
   pub withN : ℕ
   pub incremental : ℕ
+
+-- The four bytes at a place of a list; one past its end counts as 0.
+unfoldable pub flagsAt : (list : List ℕ) (at : ℕ) → GroupFlags
+flagsAt list at =
+    record {
+      perfect = getD list at 0;
+      forward = getD list (at + 1) 0;
+      withN = getD list (at + 2) 0;
+      incremental = getD list (at + 3) 0;
+    }
 
 -- What lies between two cuts: the bytes of a record, and its kind and fields.
 pub record Piece : Type 0 where
@@ -63,7 +74,8 @@ pub record Read : Type 0 where
   pub piece : Piece
 
 -- What is known of read k of a group.
-unfoldable pub contextOf : (bases : ℕ) (flags : GroupFlags) (k previous readLength : ℕ) → ReadContext
+unfoldable pub contextOf : (bases : ℕ) (flags : GroupFlags) (k previous readLength : ℕ)
+    → ReadContext
 contextOf bases flags k previous readLength =
     record {
       readLength = readLength;
@@ -75,7 +87,8 @@ contextOf bases flags k previous readLength =
       incremental = bit (flags .incremental) k;
     }
 
--- A read before its position is known: its group's bytes, its place in the group, its length and its cut.
+-- A read before its position is known: its group's bytes, its place in the group, its length and
+-- its cut.
 pub record Slot : Type 0 where
   pub flags : GroupFlags
   pub place : ℕ
@@ -83,8 +96,8 @@ pub record Slot : Type 0 where
   pub piece : Piece
 
 -- The reads of a group from `place` on.
-unfoldable pub groupSlots : (flags : GroupFlags) (place : ℕ) (lengths : List ℕ) (pieces : List Piece)
-    → List Slot
+unfoldable pub groupSlots : (flags : GroupFlags) (place : ℕ) (lengths : List ℕ)
+    (pieces : List Piece) → List Slot
 groupSlots flags place [] pieces = []
 groupSlots flags place (readLength ∷ lengths) [] = []
 groupSlots flags place (readLength ∷ lengths) (piece ∷ pieces) =
@@ -98,8 +111,8 @@ slots (ours ∷ lengths) [] = []
 slots (ours ∷ lengths) (group ∷ division) =
     groupSlots (group .flags) 0 ours (group .pieces) ++ slots lengths division
 
--- Each read with the position before it: that of the nearest earlier read of the block that has one. It
--- runs on over the groups and past records without a place.
+-- Each read with the position before it: that of the nearest earlier read of the block that has
+-- one. It runs on over the groups and past records without a place.
 unfoldable pub readsFrom : (bases previous : ℕ) (slots : List Slot) → List Read
 readsFrom bases previous [] = []
 readsFrom bases previous (slot ∷ slots) =
@@ -108,7 +121,8 @@ readsFrom bases previous (slot ∷ slots) =
     record { context = context; piece = slot .piece }
     ∷ readsFrom bases (positionAfter context (slot .piece .stored .fields)) slots
 
--- The reads of a division of the DNA section of a block with these lengths; the first step is from 0.
+-- The reads of a division of the DNA section of a block with these lengths; the first step is from
+-- 0.
 unfoldable pub readsOf : (bases : ℕ) (lengths : List ℕ) (division : Division) → List Read
 readsOf bases lengths division = readsFrom bases 0 (slots (inGroups lengths) division)
 
@@ -127,14 +141,20 @@ groupBitStray count flags =
     || (byteBitStray count (flags .forward)
     || (byteBitStray count (flags .withN) || byteBitStray count (flags .incremental)))
 
--- A group has one record for each of its reads and no stray bit, and its with-N byte is the N section's.
+-- 11: the with-N byte is not the N section's byte for the group.
+unfoldable pub withNByteWrong : (nByte : ℕ) (flags : GroupFlags) → Bool
+withNByteWrong nByte flags = not (eqb (flags .withN) nByte)
+
+-- A group has one record for each of its reads and no stray bit, and its with-N byte is the N
+-- section's.
 pub record GroupMeets (lengths : List ℕ) (nByte : ℕ) (group : Group) : Type 0 where
   pub reads : length (group .pieces) ≡ length lengths
   pub noStrayBit : groupBitStray (length lengths) (group .flags) ≡ false
   pub withN : group .flags .withN ≡ nByte
 
 -- Every group, with its lengths and its byte of the N section; there is one of each for each group.
-abbrev pub GroupsMeet : (lengths : List (List ℕ)) (nSection : List ℕ) (division : Division) → Type 0
+abbrev pub GroupsMeet : (lengths : List (List ℕ)) (nSection : List ℕ) (division : Division)
+    → Type 0
 GroupsMeet [] [] [] = Unit {0}
 GroupsMeet [] [] (group ∷ division) = ⊥
 GroupsMeet [] (nByte ∷ nSection) division = ⊥
@@ -143,9 +163,10 @@ GroupsMeet (ours ∷ lengths) (nByte ∷ nSection) [] = ⊥
 GroupsMeet (ours ∷ lengths) (nByte ∷ nSection) (group ∷ division) =
     GroupMeets ours nByte group × GroupsMeet lengths nSection division
 
--- 01: the division meets the rules, for these lengths and this N section, under a reference of so many
--- bases; it cuts all of the DNA section, in order and with nothing left.
-pub record Divides (bases : ℕ) (lengths nSection dna : List ℕ) (division : Division) : Type 0 where
+-- 01: the division meets the rules, for these lengths and this N section, under a reference of so
+-- many bases; it cuts all of the DNA section, in order and with nothing left.
+pub record Divides (bases : ℕ) (lengths nSection dna : List ℕ) (division : Division)
+    : Type 0 where
   pub bytes : divisionBytes division ≡ dna
   pub groups : GroupsMeet (inGroups lengths) nSection division
   pub records : All ReadMeets (readsOf bases lengths division)
@@ -153,15 +174,15 @@ pub record Divides (bases : ℕ) (lengths nSection dna : List ℕ) (division : D
 -- ---- What a division gives
 
 -- The reads, each as the letters that its record defines.
-unfoldable pub divisionLetters : (reference : List ℕ) (bases : ℕ) (lengths : List ℕ) (division : Division)
-    → List (List ℕ)
+unfoldable pub divisionLetters : (reference : List ℕ) (bases : ℕ) (lengths : List ℕ)
+    (division : Division) → List (List ℕ)
 divisionLetters reference bases lengths division =
     map (λ read. recordLetters reference (read .context) (read .piece .stored))
     (readsOf bases lengths division)
 
 -- The counts, sums over the reads.
-unfoldable pub divisionCounts : (reference : List ℕ) (bases : ℕ) (lengths : List ℕ) (division : Division)
-    → Counted
+unfoldable pub divisionCounts : (reference : List ℕ) (bases : ℕ) (lengths : List ℕ)
+    (division : Division) → Counted
 divisionCounts reference bases lengths division =
     sumCounts
     (map (λ read. recordCounts reference (read .context) (read .piece .stored))

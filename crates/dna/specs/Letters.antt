@@ -1,22 +1,16 @@
--- The letters of a record, one at a time (01, Records): where each comes from, the first that fits, and
--- what it is.
+-- The letters of a record, one at a time (01, Records): where each comes from, the first that fits,
+-- and what it is.
 use Prim.Native.Nat.{ℕ, _+_, _-_}
 use mathlib.Core.Bool.{Bool, cond}
 use mathlib.Core.List.{List, [], map}
 use lib.ListN.{getD}
 use lib.Dec.{ltb}
 use Rattle.base.specs.Lists.{build, member, indexOf}
-use Rattle.dna.specs.Reference.{strandBase, letterOfCode}
-use Rattle.dna.specs.Record.{ReadContext, RecordFields, perfect, global, local, raw, raw4, StoredRecord}
-use Rattle.dna.specs.Alignment.{
-  isAligned,
-  entriesOf,
-  leftOf,
-  alignedLength,
-  referenceIndex,
-  entryPlaces,
-  nPositions,
-}
+use Rattle.dna.specs.Reference.{strandBase, codeN, letterOfCode}
+use Rattle.dna.specs.Record.{ReadContext, RecordFields, perfect, global, local, raw, raw4}
+use Rattle.dna.specs.Record.{StoredRecord}
+use Rattle.dna.specs.Alignment.{isAligned, entriesOf, leftOf, alignedLength, referenceIndex}
+use Rattle.dna.specs.Alignment.{entryPlaces, nPositions}
 
 -- Where a letter comes from.
 pub data Cause : Type 0 where
@@ -35,10 +29,12 @@ pub data Cause : Type 0 where
 unfoldable pub alignedCause : (context : ReadContext) (fields : RecordFields) (k : ℕ) → Cause
 alignedCause context fields k =
     cond (member k (entryPlaces fields))
-    (entryCode (indexOf k (entryPlaces fields)) (referenceIndex context fields k) (context .forward))
+    (entryCode (indexOf k (entryPlaces fields)) (referenceIndex context fields k)
+    (context .forward))
     (referenceCode (referenceIndex context fields k) (context .forward))
 
--- Letter i of a read, but for the N list. The clipped codes are those of the left end, then the right.
+-- Letter i of a read, but for the N list. The clipped codes are those of the left end, then the
+-- right.
 unfoldable pub fieldsCause : (context : ReadContext) (fields : RecordFields) (i : ℕ) → Cause
 fieldsCause context fields i =
     cond (isAligned fields)
@@ -51,7 +47,8 @@ fieldsCause context fields i =
 -- Letter i of a record: the N list comes first, since N replaces the letter.
 unfoldable pub causeAt : (context : ReadContext) (stored : StoredRecord) (i : ℕ) → Cause
 causeAt context stored i =
-    cond (member i (nPositions (stored .nOffsets))) nList (fieldsCause context (stored .fields) i)
+    cond (member i (nPositions (stored .nOffsets))) nList
+    (fieldsCause context (stored .fields) i)
 
 -- The packed codes of a record: clipped ends, or the letters of a raw kind.
 unfoldable pub packedCodes : (fields : RecordFields) → List ℕ
@@ -63,7 +60,7 @@ packedCodes (raw4 letters) = letters .codes
 
 -- The code that a cause gives: 0 to 4 for A, C, G, T, N.
 unfoldable pub codeOf : (reference : List ℕ) (fields : RecordFields) (cause : Cause) → ℕ
-codeOf reference fields nList = 4
+codeOf reference fields nList = codeN
 codeOf reference fields (rawCode index) = getD (packedCodes fields) index 0
 codeOf reference fields (clippedCode index) = getD (packedCodes fields) index 0
 codeOf reference fields (entryCode number index forward) =
@@ -71,7 +68,8 @@ codeOf reference fields (entryCode number index forward) =
 codeOf reference fields (referenceCode index forward) = strandBase reference forward index
 
 -- The letters of a record, in ASCII capitals.
-unfoldable pub recordLetters : (reference : List ℕ) (context : ReadContext) (stored : StoredRecord) → List ℕ
+unfoldable pub recordLetters : (reference : List ℕ) (context : ReadContext)
+    (stored : StoredRecord) → List ℕ
 recordLetters reference context stored =
     build (context .readLength)
     (λ i. letterOfCode (codeOf reference (stored .fields) (causeAt context stored i)))

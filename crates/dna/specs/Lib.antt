@@ -1,5 +1,6 @@
 pub mod Reference
 pub mod Varint16
+pub mod Varint16At
 pub mod Sizes
 pub mod Record
 pub mod Alignment
@@ -7,8 +8,10 @@ pub mod RecordFaults
 pub mod Letters
 pub mod Counts
 pub mod Division
+pub mod Rules
 pub mod Sums
 pub mod RecordAt
 pub mod Walk
+pub mod FirstFault
 pub mod SizesAt
 pub mod SumsAnswered

@@ -1,6 +1,7 @@
--- Records (01, Records): what is known of a read before its record, the five kinds and their fields, the
--- bytes of a record, and the ranges without which two records could have the same bytes.
-use Prim.Native.Nat.{ℕ, _+_, _*_, _^_, _<_}
+-- Records (01, Records): what is known of a read before its record, the five kinds and their
+-- fields, the bytes of a record, and the ranges without which two records could have the same
+-- bytes.
+use Prim.Native.Nat.{ℕ, _+_, _*_, _^_, _≤_, _<_}
 use mathlib.Core.Path.{_≡_}
 use mathlib.Core.Bool.{Bool, true, false, cond}
 use mathlib.Core.List.{List, [], _∷_, _++_, map, flatMap}
@@ -10,9 +11,21 @@ use Rattle.base.specs.Numbers.{leBytes}
 use Rattle.base.specs.Packed.{pack, packedLength}
 use Rattle.dna.specs.Varint16.{varint16Bytes}
 
--- What is known of a read before its record: its length, the size of the reference, the position of the
--- nearest earlier read of the block that has one (0 where there is none), and its bit of each group byte:
--- Perfect, Forward, with-N, and pos_t as `incremental`.
+-- The most entries that a count of five bits can say.
+abbrev pub maxEntries : ℕ
+maxEntries = 31
+
+-- The most letters that an entry can be past the one before it, in six bits.
+abbrev pub maxEntryOffset : ℕ
+maxEntryOffset = 63
+
+-- The most positions that an N list may have.
+abbrev pub maxNPositions : ℕ
+maxNPositions = 31
+
+-- What is known of a read before its record: its length, the size of the reference, the position of
+-- the nearest earlier read of the block that has one (0 where there is none), and its bit of each
+-- group byte: Perfect, Forward, with-N, and pos_t as `incremental`.
 pub record ReadContext : Type 0 where
   pub readLength : ℕ
   pub referenceBases : ℕ
@@ -36,7 +49,8 @@ pub record PackedCodes : Type 0 where
 pub data RecordFields : Type 0 where
   perfect : (field : ℕ) → RecordFields
   global : (field : ℕ) (entries : List Entry) → RecordFields
-  local : (field : ℕ) (entries : List Entry) (left right : ℕ) (clipped : PackedCodes) → RecordFields
+  local : (field : ℕ) (entries : List Entry) (left right : ℕ) (clipped : PackedCodes)
+      → RecordFields
   raw : (letters : PackedCodes) → RecordFields
   raw4 : (letters : PackedCodes) → RecordFields
 
@@ -72,7 +86,8 @@ unfoldable pub fieldsBytes : (context : ReadContext) (fields : RecordFields) →
 unfolding flagByteOf
 fieldsBytes context (perfect field) = leBytes (fieldWidth context) field
 fieldsBytes context (global field entries) =
-    flagByteOf (global field entries) ∷ (leBytes (fieldWidth context) field ++ map entryByte entries)
+    flagByteOf (global field entries)
+    ∷ (leBytes (fieldWidth context) field ++ map entryByte entries)
 fieldsBytes context (local field entries left right clipped) =
     flagByteOf (local field entries left right clipped)
     ∷ (leBytes (fieldWidth context) field
@@ -102,7 +117,7 @@ recordBytes context stored =
 
 -- An entry is as narrow as its byte.
 pub record EntryFits (entry : Entry) : Type 0 where
-  pub offset : entry .offset < 64
+  pub offset : entry .offset ≤ maxEntryOffset
   pub code : entry .code < 4
 
 -- So many packed symbols, and padding to the end of the last byte.
@@ -112,7 +127,8 @@ pub record PackedFits (base per count : ℕ) (packed : PackedCodes) : Type 0 whe
   pub counted : length (packed .codes) ≡ count
   pub filled : length (packed .codes) + length (packed .padding) ≡ packedLength per count * per
 
--- The ranges of each kind: the perfect bit, a position as wide as it is stored, a count of five bits.
+-- The ranges of each kind: the perfect bit, a position as wide as it is stored, a count of five
+-- bits.
 pub record PerfectFits (context : ReadContext) (field : ℕ) : Type 0 where
   pub kind : context .perfectBit ≡ true
   pub field-fits : field < 256 ^ fieldWidth context
@@ -120,14 +136,14 @@ pub record PerfectFits (context : ReadContext) (field : ℕ) : Type 0 where
 pub record GlobalFits (context : ReadContext) (field : ℕ) (entries : List Entry) : Type 0 where
   pub kind : context .perfectBit ≡ false
   pub field-fits : field < 256 ^ fieldWidth context
-  pub count : length entries < 32
+  pub count : length entries ≤ maxEntries
   pub entries-fit : All EntryFits entries
 
 pub record LocalFits (context : ReadContext) (field : ℕ) (entries : List Entry) (left right : ℕ)
     (clipped : PackedCodes) : Type 0 where
   pub kind : context .perfectBit ≡ false
   pub field-fits : field < 256 ^ fieldWidth context
-  pub count : length entries < 32
+  pub count : length entries ≤ maxEntries
   pub entries-fit : All EntryFits entries
   pub left-fits : left < 256
   pub right-fits : right < 256

@@ -1,31 +1,20 @@
--- The record at a place of the DNA section (level 2: answers; 01, Numbers of refusal, the order in a record):
--- every field is read, whatever the bytes are, and then judged; the first fault that fits is the answer.
+-- The record at a place of the DNA section (level 2: answers; 01, Numbers of refusal, the order in
+-- a record): every field is read, whatever the bytes are, and then judged; the first fault that
+-- fits is the answer.
 use Prim.Native.Nat.{ℕ, zero, suc, _+_, _-_, _*_, _/_, _%_}
 use mathlib.Core.Bool.{cond}
 use mathlib.Core.List.{List, [], _∷_}
 use lib.ListN.{length, getD}
-use lib.Dec.{leb, ltb, eqb}
-use Rattle.base.specs.Lists.{build}
+use lib.Dec.{ltb}
+use Rattle.base.specs.Lists.{build, endsBefore}
 use Rattle.base.specs.Numbers.{le}
 use Rattle.base.specs.Packed.{bit, packedLength, symbolsAt}
 use Rattle.base.specs.Faults.{fault}
-use Rattle.base.specs.Scan.{Scan, found, refused, checked, andThen}
-use Rattle.dna.specs.Varint16.{wordEscape}
-use Rattle.dna.specs.Record.{
-  ReadContext,
-  Entry,
-  PackedCodes,
-  RecordFields,
-  perfect,
-  global,
-  local,
-  raw,
-  raw4,
-  StoredRecord,
-  fieldWidth,
-  fieldsBytes,
-  hasNList,
-}
+use Rattle.base.specs.Answer.{checked, Scan, found, refused, andThen}
+use Rattle.dna.specs.Varint16At.{varint16At, wordsFor}
+use Rattle.dna.specs.Record.{ReadContext, Entry, PackedCodes, RecordFields, perfect, global}
+use Rattle.dna.specs.Record.{local, raw, raw4, StoredRecord, fieldWidth, fieldsBytes}
+use Rattle.dna.specs.Record.{hasNList}
 use Rattle.dna.specs.RecordFaults.{recordFlagInvalid, nCountInvalid, fieldFaults}
 
 -- ---- The fields, whatever the bytes are
@@ -48,7 +37,8 @@ perfectAt context list at = perfect (le (fieldWidth context) list at)
 
 unfoldable pub globalAt : (context : ReadContext) (list : List ℕ) (at count : ℕ) → RecordFields
 globalAt context list at count =
-    global (le (fieldWidth context) list (at + 1)) (entriesAt list (at + 1 + fieldWidth context) count)
+    global (le (fieldWidth context) list (at + 1))
+    (entriesAt list (at + 1 + fieldWidth context) count)
 
 -- The left byte of a local record stands after its flag byte, position and entries.
 unfoldable pub leftPlace : (context : ReadContext) (at count : ℕ) → ℕ
@@ -56,7 +46,8 @@ leftPlace context at count = at + 1 + fieldWidth context + count
 
 unfoldable pub localAt : (context : ReadContext) (list : List ℕ) (at count : ℕ) → RecordFields
 localAt context list at count =
-    local (le (fieldWidth context) list (at + 1)) (entriesAt list (at + 1 + fieldWidth context) count)
+    local (le (fieldWidth context) list (at + 1))
+    (entriesAt list (at + 1 + fieldWidth context) count)
     (getD list (leftPlace context at count) 0) (getD list (leftPlace context at count + 1) 0)
     (packedAt 4 4 list (leftPlace context at count + 2)
     (getD list (leftPlace context at count) 0 + getD list (leftPlace context at count + 1) 0))
@@ -75,53 +66,42 @@ flaggedAt context list at flag =
 unfoldable pub judgedAt : (context : ReadContext) (list : List ℕ) (at : ℕ) (fields : RecordFields)
     → Scan RecordFields
 judgedAt context list at fields =
-    checked (fault 12 (ltb (length list) (at + length (fieldsBytes context fields))) ∷ fieldFaults context fields)
+    checked refused
+    (fault 12 (endsBefore list (at + length (fieldsBytes context fields)))
+    ∷ fieldFaults context fields)
     (found fields (at + length (fieldsBytes context fields)))
 
 -- 12 or 14 at the flag byte, which a perfect record does not have.
 unfoldable pub fieldsAt : (context : ReadContext) (list : List ℕ) (at : ℕ) → Scan RecordFields
 fieldsAt context list at =
     cond (context .perfectBit) (judgedAt context list at (perfectAt context list at))
-    (checked (fault 12 (leb (length list) at) ∷ fault 14 (recordFlagInvalid (getD list at 0)) ∷ [])
+    (checked refused
+    (fault 12 (endsBefore list (at + 1)) ∷ fault 14 (recordFlagInvalid (getD list at 0)) ∷ [])
     (judgedAt context list at (flaggedAt context list at (getD list at 0))))
 
 -- ---- The N list, field by field
-
--- The number at `at` in words of 16 bits: each word is a field, 12 where it is cut, else 20 if it is above
--- 32768 or leads to a place that is not below the bound. `words` is how many it may take at most.
-unfoldable pub varint16At : (words : ℕ) (bound place : ℕ) (list : List ℕ) (at : ℕ) → Scan ℕ
-varint16At zero bound place list at = refused 20
-varint16At (suc words) bound place list at =
-    checked
-    (fault 12 (ltb (length list) (at + 2))
-    ∷ fault 20 (ltb wordEscape (le 2 list at))
-    ∷ fault 20 (leb bound (place + le 2 list at))
-    ∷ [])
-    (cond (eqb (le 2 list at) wordEscape)
-    (andThen (varint16At words bound (place + le 2 list at) list (at + 2)) (λ more next. found (wordEscape + more) next))
-    (found (le 2 list at) (at + 2)))
-
--- How many words a number below a bound can take.
-unfoldable pub wordsFor : (bound : ℕ) → ℕ
-wordsFor bound = suc (bound / wordEscape)
 
 -- So many offsets, from `place` on; each is at least `least`, which is 1 after the first.
 unfoldable pub offsetsAt : (count bound least place : ℕ) (list : List ℕ) (at : ℕ) → Scan (List ℕ)
 offsetsAt zero bound least place list at = found [] at
 offsetsAt (suc count) bound least place list at =
     andThen (varint16At (wordsFor bound) bound place list at) (λ offset next.
-    checked (fault 20 (ltb offset least) ∷ [])
-    (andThen (offsetsAt count bound 1 (place + offset) list next) (λ offsets end. found (offset ∷ offsets) end)))
+    checked refused (fault 20 (ltb offset least) ∷ [])
+    (andThen (offsetsAt count bound 1 (place + offset) list next)
+    (λ offsets end. found (offset ∷ offsets) end)))
 
-unfoldable pub nListAt : (context : ReadContext) (list : List ℕ) (at : ℕ) → Scan (List ℕ)
-nListAt context list at =
-    checked (fault 12 (leb (length list) at) ∷ fault 20 (nCountInvalid (getD list at 0)) ∷ [])
-    (offsetsAt (getD list at 0) (context .readLength) 0 0 list (at + 1))
+-- The list of a read of so many letters: its count, then its offsets.
+unfoldable pub nListAt : (readLength : ℕ) (list : List ℕ) (at : ℕ) → Scan (List ℕ)
+nListAt readLength list at =
+    checked refused
+    (fault 12 (endsBefore list (at + 1)) ∷ fault 20 (nCountInvalid (getD list at 0)) ∷ [])
+    (offsetsAt (getD list at 0) readLength 0 0 list (at + 1))
 
 -- ---- The record
 
 unfoldable pub recordAt : (context : ReadContext) (list : List ℕ) (at : ℕ) → Scan StoredRecord
 recordAt context list at =
     andThen (fieldsAt context list at) (λ fields next.
-    andThen (cond (hasNList context fields) (nListAt context list next) (found [] next)) (λ offsets end.
-    found (record { fields = fields; nOffsets = offsets }) end))
+    andThen
+    (cond (hasNList context fields) (nListAt (context .readLength) list next) (found [] next))
+    (λ offsets end. found (record { fields = fields; nOffsets = offsets }) end))

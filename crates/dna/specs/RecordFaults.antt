@@ -7,15 +7,11 @@ use lib.Dec.{leb, ltb, eqb}
 use Rattle.base.specs.Lists.{any, member}
 use Rattle.base.specs.Packed.{bit}
 use Rattle.base.specs.Faults.{Fault, fault}
-use Rattle.dna.specs.Record.{ReadContext, RecordFields, perfect, global, local, raw, raw4, StoredRecord, flagByteOf, hasNList}
-use Rattle.dna.specs.Alignment.{
-  isAligned,
-  entriesOf,
-  alignedLength,
-  leftmostOf,
-  entryPlaces,
-  nPositions,
-}
+use Rattle.dna.specs.Reference.{codeN}
+use Rattle.dna.specs.Record.{maxNPositions, ReadContext, RecordFields, perfect, global, local}
+use Rattle.dna.specs.Record.{raw, raw4, StoredRecord, flagByteOf, hasNList}
+use Rattle.dna.specs.Alignment.{isAligned, entriesOf, alignedLength, leftmost, entryPlaces}
+use Rattle.dna.specs.Alignment.{nPositions}
 
 -- The codes of a raw4 record; none in any other.
 unfoldable pub raw4Codes : (fields : RecordFields) → List ℕ
@@ -37,8 +33,7 @@ paddingOf (raw4 letters) = letters .padding
 unfoldable pub rawBitStray : (context : ReadContext) (fields : RecordFields) → Bool
 rawBitStray context fields = not (isAligned fields) && (context .forward || context .incremental)
 
--- 14: a flag byte with two kinds, a global one that counts no entry, or a raw kind that counts any. The flag
--- byte of a record's fields can only be the second.
+-- 14: a flag byte with two kinds, a global one that counts no entry, or a raw kind that counts any.
 unfoldable pub recordFlagInvalid : (flag : ℕ) → Bool
 recordFlagInvalid flag =
     (bit flag 5 && bit flag 6)
@@ -47,11 +42,16 @@ recordFlagInvalid flag =
     || ((bit flag 5 && eqb (flag / 8) 0)
     || ((bit flag 6 || bit flag 7) && ltb 0 (flag / 8)))))
 
+-- 14 of a record that has a flag byte. The flag byte of its fields can only be a global one that
+-- counts no entry.
+abbrev pub flagByteInvalid : (context : ReadContext) (fields : RecordFields) → Bool
+flagByteInvalid context fields = not (context .perfectBit) && recordFlagInvalid (flagByteOf fields)
+
 -- 15: the aligned stretch is not inside the reference.
 unfoldable pub spanOutside : (context : ReadContext) (fields : RecordFields) → Bool
 spanOutside context fields =
     isAligned fields
-    && ltb (context .referenceBases) (leftmostOf context fields + alignedLength context fields)
+    && ltb (context .referenceBases) (leftmost context fields + alignedLength context fields)
 
 -- 16: left and right of a local record: together at least 1 and below the read's length.
 unfoldable pub clipsInvalid : (context : ReadContext) (fields : RecordFields) → Bool
@@ -79,7 +79,7 @@ entryOffsetInvalid context fields =
 
 -- 18: a 4-bit letter above 4.
 unfoldable pub baseCodeInvalid : (fields : RecordFields) → Bool
-baseCodeInvalid fields = any (λ code. ltb 4 code) (raw4Codes fields)
+baseCodeInvalid fields = any (λ code. ltb codeN code) (raw4Codes fields)
 
 -- 19: padding that is not 0.
 unfoldable pub paddingNonzero : (fields : RecordFields) → Bool
@@ -91,17 +91,23 @@ raw4BitWrong context (perfect field) = false
 raw4BitWrong context (global field entries) = false
 raw4BitWrong context (local field entries left right clipped) = false
 raw4BitWrong context (raw letters) = false
-raw4BitWrong context (raw4 letters) = not (Bool·beq (context .withN) (member 4 (letters .codes)))
+raw4BitWrong context (raw4 letters) =
+    not (Bool·beq (context .withN) (member codeN (letters .codes)))
 
 -- 20: an N list has 1 to 31 positions.
 unfoldable pub nCountInvalid : (count : ℕ) → Bool
-nCountInvalid count = eqb count 0 || ltb 31 count
+nCountInvalid count = eqb count 0 || ltb maxNPositions count
 
 -- 20: the N list's count is wrong, a later offset is 0, or a position is outside the read.
 unfoldable pub nListInvalid : (context : ReadContext) (offsets : List ℕ) → Bool
 nListInvalid context offsets =
     nCountInvalid (length offsets)
     || (laterZero offsets || anyOutside (context .readLength) (nPositions offsets))
+
+-- 20 of a record that has an N list.
+abbrev pub nListWrong : (context : ReadContext) (stored : StoredRecord) → Bool
+nListWrong context stored =
+    hasNList context (stored .fields) && nListInvalid context (stored .nOffsets)
 
 -- The faults of a record up to its N list, in 01's order; raw4's bit is judged last.
 unfoldable pub fieldFaults : (context : ReadContext) (fields : RecordFields) → List Fault
@@ -118,6 +124,5 @@ fieldFaults context fields =
 -- All the faults of a record: at its flag byte, in its fields, in its N list.
 unfoldable pub recordFaults : (context : ReadContext) (stored : StoredRecord) → List Fault
 recordFaults context stored =
-    fault 14 (not (context .perfectBit) && recordFlagInvalid (flagByteOf (stored .fields)))
-    ∷ (fieldFaults context (stored .fields)
-    ++ (fault 20 (hasNList context (stored .fields) && nListInvalid context (stored .nOffsets)) ∷ []))
+    fault 14 (flagByteInvalid context (stored .fields))
+    ∷ (fieldFaults context (stored .fields) ++ (fault 20 (nListWrong context stored) ∷ []))

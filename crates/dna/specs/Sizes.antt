@@ -1,14 +1,13 @@
--- The size section (01, Lengths): groups of 8 reads, the last shorter, each a same byte, a byte-size byte
--- and the sizes. A list of stored sizes says how each length is stored; the section is its bytes.
+-- The size section (01, Lengths): groups of 8 reads, the last shorter, each a same byte, a
+-- byte-size byte and the sizes. A list of stored sizes says how each length is stored; the section
+-- is its bytes.
 use Prim.Native.Nat.{ℕ, _<_}
 use mathlib.Core.Path.{_≡_}
-use mathlib.Core.Bool.{Bool, true, false, cond, _||_}
-use mathlib.Core.List.{List, [], _∷_, map, flatMap}
-use lib.ListN.{getD}
+use mathlib.Core.Bool.{Bool, true, false, _||_}
+use mathlib.Core.List.{List, [], _∷_, flatMap}
 use lib.Dec.{eqb, ltb}
 use Rattle.base.specs.Lists.{any, All}
-use Rattle.base.specs.Groups.{inGroups}
-use Rattle.base.specs.Packed.{byteOf}
+use Rattle.base.specs.Groups.{inGroups, flagByte}
 use Rattle.dna.specs.Varint16.{varint16Bytes}
 
 -- The most letters that a read may have.
@@ -41,10 +40,6 @@ unfoldable pub storedBytes : (stored : StoredSize) → List ℕ
 storedBytes same = []
 storedBytes (inByte size) = size ∷ []
 storedBytes (inWords size) = varint16Bytes size
-
--- A flag byte: bit k is set exactly if the test holds of read k; bits past the last read are 0.
-unfoldable pub flagByte : (test : StoredSize → Bool) (group : List StoredSize) → ℕ
-flagByte test group = byteOf 2 8 (λ k. cond (getD (map test group) k false) 1 0)
 
 -- The bytes of a group: the same byte, the byte-size byte, the sizes.
 unfoldable pub sizeGroupBytes : (group : List StoredSize) → List ℕ

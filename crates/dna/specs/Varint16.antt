@@ -1,5 +1,5 @@
--- Words of 16 bits (01, Lengths; 000, sequence sizes and list_p): 32768 as often as it fits, then one
--- remainder below 32768. Read lengths and N offsets are stored so.
+-- Words of 16 bits (01, Lengths; 000, sequence sizes and list_p): 32768 as often as it fits, then
+-- one remainder below 32768. Read lengths and N offsets are stored so.
 use Prim.Native.Nat.{ℕ, _/_, _%_}
 use mathlib.Core.List.{List, [], _∷_, _++_, flatMap}
 use lib.ListN.{replicate}

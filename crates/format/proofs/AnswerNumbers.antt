@@ -1,138 +1,139 @@
--- What the calls refuse with: the number is one of their own, and the read index is 0 or a read's. Assumes nothing.
+-- The numbers that judging and decoding refuse with, and the reads they name. Assumes nothing.
 use mathlib.Core.Path.{_≡_, refl, sym, ap, _∙_}
 use Prim.Native.Nat.{ℕ, _≤_, _<_}
 use native.Mathlib.Omega.{arith}
-use mathlib.Core.Bool.{Bool, true, false, cond}
+use mathlib.Core.Bool.{true, false}
 use mathlib.Core.List.{List, [], _∷_}
 use lib.ListN.{length, length-replicate}
-use Rattle.base.specs.Lists.{All}
-use Rattle.base.specs.Faults.{Fault}
-use Rattle.base.specs.Scan.{Scan, found, refused}
-use Rattle.base.proofs.ScanLaws.{found-same, checked-found, cond-parts}
-use Rattle.dna.proofs.SizesFind.{sizes-count}
+use Rattle.base.specs.Numbers.{nonNegative}
+use Rattle.base.specs.Faults.{fault}
+use Rattle.base.specs.Answer.{checked, found, refused, andThen, refusedAs}
+use Rattle.base.proofs.AnswerLaws.{found-same, checked-found, found-refusedAs, Refuses}
+use Rattle.base.proofs.AnswerLaws.{checked-refuses, andThen-refuses, cond-refuses}
+use Rattle.base.proofs.AnswerLaws.{refusedAs-refuses, refuses-too, every, cond-yes, cond-no}
+use Rattle.base.proofs.AnswerLaws.{cond-parts}
+use Rattle.dna.specs.SizesAt.{fixedLengths, lengthsGiven}
+use Rattle.dna.specs.Reference.{referenceSizeWrong}
 use Rattle.dna.specs.Division.{Division}
-use Rattle.dna.specs.Walk.{Walk, walked, stopped, sectionWalk}
-use Rattle.dna.proofs.WalkNumbers.{Own, walk-own}
+use Rattle.dna.specs.Walk.{ReadRefusal, ofRead, Walk, refusedAt, sectionWalk}
+use Rattle.dna.proofs.SizesSound.{sizes-count}
+use Rattle.dna.proofs.WalkNumbers.{OwnAt, walk-own}
 use Rattle.format.specs.Header.{headerOf, flagSet, sameLengthFlag, readCount}
-use Rattle.format.specs.Sections.{dnaNumber, sizeNumber, nNumber, sectionOf}
-use Rattle.format.specs.HeaderFaults.{headerFaults}
+use Rattle.format.specs.Sections.{dnaNumber, sizeNumber, nNumber, sectionOf, blockLength}
+use Rattle.format.specs.HeaderFaults.{tableFaults, headerFaults}
 use Rattle.format.specs.Lengths.{lengthFaults}
-use Rattle.format.specs.BlockAnswer.{
-  BlockAnswer,
-  accepts,
-  refuses,
-  stage,
-  headerLengths,
-  lengthsAnswer,
-  lengthsStage,
-  dnaStage,
-  blockAnswer,
-  roomAnswer,
-  decodeAnswer,
-}
+use Rattle.format.specs.WellFormed.{BlockDivision}
+use Rattle.format.specs.BlockAnswer.{lengthsAnswer, dnaTrailing, blockAnswer, decodeAnswer}
 
--- A refusal's number is 1 to `last`, and its read index is 0 or below `reads`.
-pub record OwnRefusal (last reads number read : ℕ) : Type 0 where
-  pub least : 1 ≤ number
-  pub most : number ≤ last
-  pub index : 0 < read → read < reads
+-- A refusal's number is `first` to `last`, and its read index is 0 or below `reads`.
+pub record OwnRefusal (first last reads : ℕ) (refusal : ReadRefusal) : Type 0 where
+  pub least : first ≤ refusal .number
+  pub most : refusal .number ≤ last
+  pub index : 0 < refusal .read → refusal .read < reads
 
-abbrev pub AnswerOwn : (last reads : ℕ) (answer : BlockAnswer) → Type 0
-AnswerOwn last reads (accepts divided) = Unit {0}
-AnswerOwn last reads (refuses number read) = OwnRefusal last reads number read
-
-stage-own : (last reads : ℕ) (faults : List Fault) (rest : BlockAnswer) → All (λ f. (1 ≤ f .number) × (f .number ≤ last)) faults
-    → AnswerOwn last reads rest → AnswerOwn last reads (stage faults rest)
-unfolding stage
-stage-own last reads [] rest h a = a
-stage-own last reads (f ∷ fs) rest h a =
-    let go : (t : Bool) → AnswerOwn last reads (cond t (refuses (f .number) 0) (stage fs rest))
-    = λ t. elim t [
-      | true ↦ record { least = h .0 .0; most = h .0 .1; index = λ z. absurd (omega arith) }
-      | false ↦ stage-own last reads fs rest (h .1) a
-    ] in
-    go (f .fits)
-
--- A longer list of own numbers.
-own-wider : (last more reads : ℕ) (answer : BlockAnswer) → last ≤ more → AnswerOwn last reads answer → AnswerOwn more reads answer
-own-wider last more reads (accepts divided) h a = tt
-own-wider last more reads (refuses number read) h a = record { least = a .least; most = omega (arith, a .most); index = a .index }
-
-lengthsStage-own : (last reads : ℕ) (scan : Scan (List ℕ)) (rest : List ℕ → BlockAnswer) → 9 ≤ last
-    → ((lengths : List ℕ) (next : ℕ) → scan ≡ found lengths next → AnswerOwn last reads (rest lengths))
-    → AnswerOwn last reads (lengthsStage scan rest)
-unfolding lengthsStage
-lengthsStage-own last reads (found lengths next) rest h k = k lengths next refl
-lengthsStage-own last reads (refused number) rest h k = record { least = omega arith; most = h; index = λ z. absurd (omega arith) }
-
-dnaStage-own : (reads size : ℕ) (walk : Walk Division) (rest : Division → BlockAnswer)
-    → ((number read : ℕ) → walk ≡ stopped number read → Own number × (read < reads))
-    → ((division : Division) → AnswerOwn 21 reads (rest division)) → AnswerOwn 21 reads (dnaStage size walk rest)
-unfolding dnaStage
-dnaStage-own reads size (walked division next) rest w h = stage-own 21 reads _ _ ((omega arith, omega arith), tt) (h division)
-dnaStage-own reads size (stopped number read) rest w h =
-    let o = w number read refl in
-    record { least = omega (arith, o .0 .least); most = omega (arith, o .0 .most); index = λ z. o .1 }
-
-header-count : (input lengths : List ℕ) (next : ℕ) → headerLengths input ≡ found lengths next → length lengths ≡ readCount (headerOf input)
-unfolding headerLengths
-header-count input lengths next e =
-    ap length (sym (found-same (checked-found _ _ e .1) .0)) ∙ length-replicate (readCount (headerOf input)) _
+-- A number for no read.
+own : (first last reads number : ℕ) → first ≤ number → number ≤ last → OwnRefusal first last reads (ofRead 0 number)
+own first last reads number least most = record { least = least; most = most; index = λ z. absurd (omega arith) }
 
 -- The lengths that are answered are as many as there are reads.
-answer-count : (input lengths : List ℕ) (next : ℕ) → lengthsAnswer input ≡ found lengths next → length lengths ≡ readCount (headerOf input)
-unfolding lengthsAnswer
+pub answer-count : (input lengths : List ℕ) (next : ℕ) → lengthsAnswer input ≡ found lengths next → length lengths ≡ readCount (headerOf input)
+unfolding lengthsAnswer lengthsGiven fixedLengths
 answer-count input lengths next e =
-    cond-parts (flagSet (headerOf input .flags) sameLengthFlag) _ _ e
-    (λ t h. header-count input lengths next h)
-    (λ t h. sizes-count (readCount (headerOf input)) (sectionOf input sizeNumber) lengths next h)
-
--- Judging a block refuses with 1 to 21.
-pub block-own : (bases : ℕ) (reference input : List ℕ) → AnswerOwn 21 (readCount (headerOf input)) (blockAnswer bases reference input)
-unfolding blockAnswer headerFaults lengthFaults
-block-own bases reference input =
     let reads : ℕ = readCount (headerOf input) in
-    stage-own 21 reads _ _ (
-      (omega arith, omega arith),
+    cond-parts (flagSet (headerOf input .flags) sameLengthFlag) _ _ e
+    (λ t h. ap length (sym (found-same (checked-found (λ n. n) _ _ h .1) .0)) ∙ length-replicate reads (nonNegative (headerOf input .«l_read»)))
+    (λ t h. sizes-count reads (sectionOf input sizeNumber) lengths next h)
+
+-- What follows the lengths, and what follows the reference.
+abbrev pub afterLengths : (bases : ℕ) (input lengths : List ℕ) → Walk BlockDivision
+afterLengths bases input lengths =
+    checked (refusedAt 0) (lengthFaults input lengths)
+    (andThen (sectionWalk bases lengths (sectionOf input nNumber) (sectionOf input dnaNumber)) (λ division next.
+    checked (refusedAt 0) (fault 21 (dnaTrailing input next) ∷ [])
+    (found (record { lengths = lengths; division = division }) (blockLength (headerOf input)))))
+
+abbrev pub afterReference : (bases : ℕ) (input : List ℕ) → Walk BlockDivision
+afterReference bases input =
+    checked (refusedAt 0) (headerFaults input)
+    (andThen (refusedAs (λ n. ofRead 0 9) (lengthsAnswer input)) (λ lengths end. afterLengths bases input lengths))
+
+pub past-reference : (bases : ℕ) (reference input : List ℕ) → referenceSizeWrong bases reference ≡ false
+    → blockAnswer bases reference input ≡ afterReference bases input
+unfolding blockAnswer checked
+past-reference bases reference input fits = cond-no _ fits refl
+
+-- A reference that does not fit is refused before anything else.
+pub reference-refused : (bases : ℕ) (reference input : List ℕ) → referenceSizeWrong bases reference ≡ true
+    → blockAnswer bases reference input ≡ refused (ofRead 0 1)
+unfolding blockAnswer checked
+reference-refused bases reference input wrong = cond-yes _ wrong refl
+
+-- After the lengths a block is refused with 10 to 21.
+pub lengths-own : (bases : ℕ) (input lengths : List ℕ) → Refuses (OwnRefusal 10 21 (length lengths)) (afterLengths bases input lengths)
+unfolding lengthFaults
+lengths-own bases input lengths =
+    let such : ReadRefusal → Type 0 = OwnRefusal 10 21 (length lengths) in
+    let row : (number : ℕ) → 10 ≤ number → number ≤ 21 → such (ofRead 0 number) = own 10 21 (length lengths) in
+    let walk : Walk Division = sectionWalk bases lengths (sectionOf input nNumber) (sectionOf input dnaNumber) in
+    checked-refuses such (ofRead 0) _ _ (row 10 (omega arith) (omega arith), (row 11 (omega arith) (omega arith), tt))
+    (andThen-refuses such walk _
+    (refuses-too (OwnAt 0 (length lengths)) such walk
+    (λ refusal o.
+    record { least = omega (arith, o .number .least); most = omega (arith, o .number .most); index = λ z. omega (arith, o .below) })
+    (walk-own bases lengths (sectionOf input nNumber) (sectionOf input dnaNumber)))
+    (λ division next f. checked-refuses such (ofRead 0) _ _ (row 21 (omega arith) (omega arith), tt) tt))
+
+-- After the reference with 2 to 21.
+pub reference-own : (bases : ℕ) (input : List ℕ) → Refuses (OwnRefusal 2 21 (readCount (headerOf input))) (afterReference bases input)
+unfolding headerFaults tableFaults
+reference-own bases input =
+    let reads : ℕ = readCount (headerOf input) in
+    let such : ReadRefusal → Type 0 = OwnRefusal 2 21 reads in
+    let row : (number : ℕ) → 2 ≤ number → number ≤ 21 → such (ofRead 0 number) = own 2 21 reads in
+    checked-refuses such (ofRead 0) _ _ (
+      row 2 (omega arith) (omega arith),
       (
-        (omega arith, omega arith),
+        row 3 (omega arith) (omega arith),
         (
-          (omega arith, omega arith),
+          row 4 (omega arith) (omega arith),
           (
-            (omega arith, omega arith),
+            row 5 (omega arith) (omega arith),
             (
-              (omega arith, omega arith),
-              (
-                (omega arith, omega arith),
-                (
-                  (omega arith, omega arith),
-                  ((omega arith, omega arith), tt),
-                ),
-              ),
+              row 6 (omega arith) (omega arith),
+              (row 7 (omega arith) (omega arith), (row 8 (omega arith) (omega arith), tt)),
             ),
           ),
         ),
       ),
     )
-    (lengthsStage-own 21 reads (lengthsAnswer input) _ (omega arith) (λ lengths next e.
-    stage-own 21 reads _ _ ((omega arith, omega arith), ((omega arith, omega arith), tt))
-    (dnaStage-own reads (length (sectionOf input dnaNumber))
-    (sectionWalk bases lengths (sectionOf input nNumber) (sectionOf input dnaNumber)) _
-    (λ number read s.
-    let w = walk-own bases lengths (sectionOf input nNumber) (sectionOf input dnaNumber) number read s in
-    (w .0, omega (arith, w .1, answer-count input lengths next e)))
-    (λ division. tt))))
+    (andThen-refuses such (refusedAs (λ n. ofRead 0 9) (lengthsAnswer input)) _
+    (refusedAs-refuses such (λ n. ofRead 0 9) (lengthsAnswer input)
+    (every (λ n. such (ofRead 0 9)) (lengthsAnswer input) (λ n. row 9 (omega arith) (omega arith))))
+    (λ lengths end e.
+    let counted : length lengths ≡ reads =
+    answer-count input lengths end (found-refusedAs (λ n. ofRead 0 9) (lengthsAnswer input) e) in
+    refuses-too (OwnRefusal 10 21 (length lengths)) such (afterLengths bases input lengths)
+    (λ refusal o. record { least = omega (arith, o .least); most = o .most; index = λ z. omega (arith, o .index z) })
+    (lengths-own bases input lengths)))
 
-room-own : (reference : List ℕ) (bases letterRoom endRoom reads : ℕ) (answer : BlockAnswer) → AnswerOwn 21 reads answer
-    → AnswerOwn 22 reads (roomAnswer reference bases letterRoom endRoom answer)
-unfolding roomAnswer
-room-own reference bases letterRoom endRoom reads (accepts divided) a = stage-own 22 reads _ _ ((omega arith, omega arith), tt) tt
-room-own reference bases letterRoom endRoom reads (refuses number read) a = own-wider 21 22 reads (refuses number read) (omega arith) a
+-- Judging a block refuses with 1 to 21.
+pub block-own : (bases : ℕ) (reference input : List ℕ)
+    → Refuses (OwnRefusal 1 21 (readCount (headerOf input))) (blockAnswer bases reference input)
+unfolding blockAnswer checked
+block-own bases reference input =
+    let reads : ℕ = readCount (headerOf input) in
+    cond-refuses (OwnRefusal 1 21 reads) (referenceSizeWrong bases reference) _ _ (own 1 21 reads 1 (omega arith) (omega arith))
+    (refuses-too (OwnRefusal 2 21 reads) (OwnRefusal 1 21 reads) (afterReference bases input)
+    (λ refusal o. record { least = omega (arith, o .least); most = o .most; index = o .index }) (reference-own bases input))
 
 -- Decoding refuses with 1 to 22.
 pub decode-own : (bases : ℕ) (reference input letters ends : List ℕ)
-    → AnswerOwn 22 (readCount (headerOf input)) (decodeAnswer bases reference input letters ends)
+    → Refuses (OwnRefusal 1 22 (readCount (headerOf input))) (decodeAnswer bases reference input letters ends)
 unfolding decodeAnswer
 decode-own bases reference input letters ends =
-    room-own reference bases (length letters) (length ends) (readCount (headerOf input)) (blockAnswer bases reference input)
-    (block-own bases reference input)
+    let reads : ℕ = readCount (headerOf input) in
+    let such : ReadRefusal → Type 0 = OwnRefusal 1 22 reads in
+    andThen-refuses such (blockAnswer bases reference input) _
+    (refuses-too (OwnRefusal 1 21 reads) such (blockAnswer bases reference input)
+    (λ refusal o. record { least = o .least; most = omega (arith, o .most); index = o .index }) (block-own bases reference input))
+    (λ divided next e. checked-refuses such (ofRead 0) _ _ (own 1 22 reads 22 (omega arith) (omega arith), tt) tt)

@@ -12,91 +12,34 @@ use borrow.Author.Tests.{ltb-true, ltb-false, lt-ltb, le-ltb, eqb-true}
 use Rattle.base.specs.Lists.{any, AllBytes}
 use Rattle.base.specs.Groups.{groupCount}
 use Rattle.base.specs.Numbers.{nonNegative}
-use Rattle.base.specs.Faults.{Fault, fault, NoneFits}
-use Rattle.base.specs.Scan.{Scan, found, refused}
+use Rattle.base.specs.Faults.{NoneFits}
+use Rattle.base.specs.Answer.{found, refusedAs}
 use Rattle.base.proofs.Tests.{absurd-test, or-neither, neither-or, and-first, not-false}
 use Rattle.base.proofs.ListLaws.{by-test, below-take, below-drop}
-use Rattle.base.proofs.ScanLaws.{found-same, checked-none, checked-found, cond-yes, cond-no}
+use Rattle.base.proofs.AnswerLaws.{found-same, checked-none, checked-found, andThen-found}
+use Rattle.base.proofs.AnswerLaws.{andThen-parts, refusedAs-found, found-refusedAs, cond-yes}
+use Rattle.base.proofs.AnswerLaws.{cond-no}
 use Rattle.dna.specs.Reference.{referenceSizeWrong, ReferenceFits}
 use Rattle.dna.specs.Sizes.{lengthInvalid}
-use Rattle.dna.specs.SizesAt.{sizesAnswer}
-use Rattle.dna.specs.Division.{Division, Divides}
-use Rattle.dna.specs.Walk.{Walk, walked, stopped, sectionWalk}
-use Rattle.dna.proofs.SizesFind.{sizes-answer, answer-sizes}
-use Rattle.dna.proofs.WalkFinds.{divides-walk}
-use Rattle.dna.proofs.WalkFound.{walk-divides}
+use Rattle.dna.specs.SizesAt.{sizesAnswer, fixedLengths, lengthsGiven}
+use Rattle.dna.specs.Division.{Divides}
+use Rattle.dna.specs.Walk.{ofRead, sectionWalk}
+use Rattle.dna.proofs.SizesComplete.{sizes-answer}
+use Rattle.dna.proofs.SizesSound.{answer-sizes}
+use Rattle.dna.proofs.WalkComplete.{divides-walk}
+use Rattle.dna.proofs.WalkSound.{walk-divides}
 use Rattle.format.specs.Header.{Header, headerOf, flagSet, sameLengthFlag, readCount}
-use Rattle.format.specs.Sections.{dnaNumber, sizeNumber, nNumber, sectionStart, sectionLength, sectionOf, blockLength}
+use Rattle.format.specs.Sections.{dnaNumber, sizeNumber, nNumber, sectionStart, sectionLength}
+use Rattle.format.specs.Sections.{sectionOf, blockLength}
 use Rattle.format.specs.HeaderFaults.{headerFaults}
-use Rattle.format.specs.Lengths.{HeaderLengths, LengthsBy, LengthsAre, dnaSizeWrong, nSectionWrong, lengthFaults}
+use Rattle.format.specs.Lengths.{HeaderLengths, LengthsBy, LengthsAre, dnaSizeWrong}
+use Rattle.format.specs.Lengths.{nSectionWrong, lengthFaults}
 use Rattle.format.specs.WellFormed.{BlockDivision, DividesBlock, WellFormed}
-use Rattle.format.specs.BlockAnswer.{
-  BlockAnswer,
-  accepts,
-  refuses,
-  stage,
-  lReadInvalid,
-  headerLengths,
-  lengthsAnswer,
-  lengthsStage,
-  dnaStage,
-  blockAnswer,
-}
-use Rattle.format.proofs.HeaderLaws.{
-  headerOf-append,
-  sectionOf-append,
-  HeaderRight,
-  faults-right,
-  faults-same,
-}
-
--- ---- Stages
-
-pub absurd-accepts {ℓ} : {X : Type ℓ} {number read : ℕ} {divided : BlockDivision} → refuses number read ≡ accepts divided → X
-absurd-accepts e = let z : _≡_ {A = ℕ} 0 1 = cc in absurd (omega arith)
-
-pub accepts-same : {one other : BlockDivision} → accepts one ≡ accepts other → one ≡ other
-accepts-same e = cc
-
-pub stage-none : (faults : List Fault) (rest : BlockAnswer) → NoneFits faults → stage faults rest ≡ rest
-unfolding stage any
-stage-none [] rest none = refl
-stage-none (f ∷ fs) rest none =
-    let parts = or-neither (f .fits) _ none in
-    rw (parts .0) (stage-none fs rest (parts .1))
-
-pub stage-accepts : (faults : List Fault) (rest : BlockAnswer) {divided : BlockDivision} → stage faults rest ≡ accepts divided
-    → NoneFits faults × (rest ≡ accepts divided)
-unfolding stage any
-stage-accepts [] rest e = (refl, e)
-stage-accepts (f ∷ fs) rest {divided} e =
-    let go : (t : Bool) → cond t (refuses (f .number) 0) (stage fs rest) ≡ accepts divided
-    → (t || any (λ g. g .fits) fs ≡ false) × (rest ≡ accepts divided)
-    = λ t. elim t [ true ↦ λ h. absurd-accepts h | false ↦ λ h. stage-accepts fs rest h ] in
-    go (f .fits) e
-
-lengthsStage-parts {ℓ} : {X : Type ℓ} (scan : Scan (List ℕ)) (rest : List ℕ → BlockAnswer) {divided : BlockDivision}
-    → lengthsStage scan rest ≡ accepts divided
-    → ((lengths : List ℕ) (next : ℕ) → scan ≡ found lengths next → rest lengths ≡ accepts divided → X) → X
-unfolding lengthsStage
-lengthsStage-parts (found lengths next) rest e use′ = use′ lengths next refl e
-lengthsStage-parts (refused number) rest e use′ = absurd-accepts e
-
-dnaStage-parts {ℓ} : {X : Type ℓ} (size : ℕ) (walk : Walk Division) (rest : Division → BlockAnswer) {divided : BlockDivision}
-    → dnaStage size walk rest ≡ accepts divided
-    → ((division : Division) (next : ℕ) → walk ≡ walked division next → size ≤ next → rest division ≡ accepts divided → X) → X
-unfolding dnaStage any
-dnaStage-parts size (walked division next) rest e use′ =
-    let parts = stage-accepts (fault 21 (ltb next size) ∷ []) (rest division) e in
-    use′ division next refl (ltb-false next size (or-neither (ltb next size) _ (parts .0) .0)) (parts .1)
-dnaStage-parts size (stopped number read) rest e use′ = absurd-accepts e
+use Rattle.format.specs.BlockAnswer.{lengthsAnswer, dnaTrailing, blockAnswer}
+use Rattle.format.proofs.HeaderLaws.{headerOf-append, sectionOf-append, HeaderRight}
+use Rattle.format.proofs.HeaderLaws.{faults-right, faults-same}
 
 -- ---- Lengths
-
-l-read-signed : (number : ℤ) → lReadInvalid number ≡ false → (number ≡ pos (nonNegative number)) × (lengthInvalid (nonNegative number) ≡ false)
-unfolding lReadInvalid nonNegative
-l-read-signed (pos n) e = (refl, e)
-l-read-signed (negsuc n) e = absurd-test e
 
 no-length : (list : List ℕ) → length list ≤ 0 → list ≡ []
 no-length [] h = refl
@@ -106,41 +49,49 @@ replicate-none : (n : ℕ) (x y : ℕ) → n ≤ 0 → replicate n x ≡ replica
 replicate-none zero x y h = refl
 replicate-none (suc n) x y h = absurd (omega arith)
 
-header-lengths-find : (input lengths : List ℕ) → HeaderLengths (headerOf input) (sectionOf input sizeNumber) lengths
-    → headerLengths input ≡ found lengths 0
-unfolding headerLengths any lReadInvalid nonNegative
-header-lengths-find input lengths h =
-    let header : Header = headerOf input in
+-- A number that is a length as a count is itself.
+l-read-length : (number : ℤ) → lengthInvalid (nonNegative number) ≡ false → number ≡ pos (nonNegative number)
+unfolding nonNegative lengthInvalid
+l-read-length (pos n) e = refl
+l-read-length (negsuc n) e = absurd-test e
+
+header-lengths-find : (header : Header) (section lengths : List ℕ) → HeaderLengths header section lengths
+    → fixedLengths (nonNegative (header .«l_read»)) (readCount header) section ≡ found lengths 0
+unfolding fixedLengths any nonNegative
+header-lengths-find header section lengths h =
     let n : ℕ = readCount header in
-    let empty : length (sectionOf input sizeNumber) ≡ 0 = ap length (h .empty) in
-    checked-none _ _
-    (neither-or _ _ (le-ltb 0 (length (sectionOf input sizeNumber)) (omega arith))
+    let each : ℕ = nonNegative (header .«l_read») in
+    let empty : length section ≡ 0 = ap length (h .empty) in
+    checked-none _ _ _
+    (neither-or _ _ (le-ltb 0 (length section) (omega arith))
     (neither-or _ _
     (by-test (ltb 0 n)
     (λ some.
     let l-read = h .l-read (ltb-true 0 n some) in
-    ap₂ (λ (t : Bool) (z : ℤ). t && lReadInvalid z) some (l-read .0) ∙ l-read .1)
-    (λ none. ap (λ (t : Bool). t && lReadInvalid (header .«l_read»)) none)) refl))
+    ap₂ (λ (t : Bool) (z : ℤ). t && lengthInvalid (nonNegative z)) some (l-read .0) ∙ l-read .1)
+    (λ none. ap (λ (t : Bool). t && lengthInvalid each) none)) refl))
     ∙ ap (λ (l : List ℕ). found l 0)
     (by-test (ltb 0 n)
     (λ some. ap (λ (z : ℤ). replicate n (nonNegative z)) (h .l-read (ltb-true 0 n some) .0) ∙ sym (h .lengths-are))
     (λ none. replicate-none n _ (h .readLength) (ltb-false 0 n none) ∙ sym (h .lengths-are)))
 
-header-lengths-found : (input lengths : List ℕ) (next : ℕ) → headerLengths input ≡ found lengths next
-    → HeaderLengths (headerOf input) (sectionOf input sizeNumber) lengths
-unfolding headerLengths any
-header-lengths-found input lengths next e =
-    let header : Header = headerOf input in
+header-lengths-found : (header : Header) (section lengths : List ℕ) (next : ℕ)
+    → fixedLengths (nonNegative (header .«l_read»)) (readCount header) section ≡ found lengths next
+    → HeaderLengths header section lengths
+unfolding fixedLengths any
+header-lengths-found header section lengths next e =
     let n : ℕ = readCount header in
-    let parts = checked-found _ _ e in
-    let first : (ltb 0 (length (sectionOf input sizeNumber)) ≡ false) × ((ltb 0 n && lReadInvalid (header .«l_read»)) || false ≡ false)
-    = or-neither _ _ (parts .0) in
-    let second : (ltb 0 n && lReadInvalid (header .«l_read») ≡ false) × (false ≡ false) = or-neither _ _ (first .1) in
+    let each : ℕ = nonNegative (header .«l_read») in
+    let parts = checked-found (λ n. n) _ _ e in
+    let first : (ltb 0 (length section) ≡ false) × ((ltb 0 n && lengthInvalid each) || false ≡ false) = or-neither _ _ (parts .0) in
+    let second : (ltb 0 n && lengthInvalid each ≡ false) × (false ≡ false) = or-neither _ _ (first .1) in
     let eq = found-same (parts .1) in
     record {
-      empty = no-length (sectionOf input sizeNumber) (ltb-false 0 _ (first .0));
-      readLength = nonNegative (header .«l_read»);
-      l-read = λ some. l-read-signed (header .«l_read») (and-first (ltb 0 n) _ (second .0) (lt-ltb 0 n some));
+      empty = no-length section (ltb-false 0 _ (first .0));
+      readLength = each;
+      l-read = λ some.
+          let valid : lengthInvalid each ≡ false = and-first (ltb 0 n) _ (second .0) (lt-ltb 0 n some) in
+          (l-read-length (header .«l_read») valid, valid);
       lengths-are = sym (eq .0);
     }
 
@@ -152,12 +103,12 @@ lengths-count false header section lengths h = h .counted
 
 -- The lengths of a block are its answer.
 pub lengths-find : (input lengths : List ℕ) → LengthsAre input lengths → (next : ℕ) × (lengthsAnswer input ≡ found lengths next)
-unfolding lengthsAnswer
+unfolding lengthsAnswer lengthsGiven
 lengths-find input lengths h =
     let go : (t : Bool) → flagSet (headerOf input .flags) sameLengthFlag ≡ t → LengthsBy t (headerOf input) (sectionOf input sizeNumber) lengths
     → (next : ℕ) × (lengthsAnswer input ≡ found lengths next)
     = λ t. elim t [
-      | true ↦ λ e l. (0, cond-yes _ e (header-lengths-find input lengths l))
+      | true ↦ λ e l. (0, cond-yes _ e (header-lengths-find (headerOf input) (sectionOf input sizeNumber) lengths l))
       | false ↦ λ e l. (
         length (sectionOf input sizeNumber),
         cond-no _ e (sizes-answer (readCount (headerOf input)) (sectionOf input sizeNumber) lengths (l .stored) (l .counted)),
@@ -168,12 +119,15 @@ lengths-find input lengths h =
 -- What is answered are the lengths of the block.
 pub lengths-found : (input lengths : List ℕ) (next : ℕ) → AllBytes (sectionOf input sizeNumber) → lengthsAnswer input ≡ found lengths next
     → LengthsAre input lengths
-unfolding lengthsAnswer
+unfolding lengthsAnswer lengthsGiven
 lengths-found input lengths next bytes e =
-    let go : (t : Bool) → cond t (headerLengths input) (sizesAnswer (readCount (headerOf input)) (sectionOf input sizeNumber)) ≡ found lengths next
+    let header : Header = headerOf input in
+    let section : List ℕ = sectionOf input sizeNumber in
+    let go : (t : Bool)
+    → cond t (fixedLengths (nonNegative (header .«l_read»)) (readCount header) section) (sizesAnswer (readCount header) section) ≡ found lengths next
     → LengthsBy t (headerOf input) (sectionOf input sizeNumber) lengths
     = λ t. elim t [
-      | true ↦ λ h. header-lengths-found input lengths next h
+      | true ↦ λ h. header-lengths-found header section lengths next h
       | false ↦ λ h.
           let a = answer-sizes (readCount (headerOf input)) (sectionOf input sizeNumber) lengths next bytes h in
           record { counted = a .counted; stored = a .stored }
@@ -229,22 +183,20 @@ one-lengths input ones others h k =
 -- An input whose header and lengths earn no fault is accepted with every division of it.
 answer-accepts : (bases : ℕ) (reference input : List ℕ) (divided : BlockDivision) → ReferenceFits bases reference
     → NoneFits (headerFaults input) → NoneFits (lengthFaults input (divided .lengths)) → DividesBlock bases input divided
-    → blockAnswer bases reference input ≡ accepts divided
-unfolding blockAnswer any lengthsStage dnaStage
+    → blockAnswer bases reference input ≡ found divided (blockLength (headerOf input))
+unfolding blockAnswer dnaTrailing any
 answer-accepts bases reference input divided fits header lengthsRight d =
-    let found-lengths = lengths-find input (divided .lengths) (d .lengths-are) in
-    let walk : sectionWalk bases (divided .lengths) (sectionOf input nNumber) (sectionOf input dnaNumber)
-    ≡ walked (divided .division) (length (sectionOf input dnaNumber))
-    = divides-walk bases (divided .lengths) (sectionOf input nNumber) (sectionOf input dnaNumber) (divided .division) (d .divides) in
-    stage-none _ _ (neither-or _ _ (fits .fits) header)
-    ∙ rw (found-lengths .1)
-    (stage-none (lengthFaults input (divided .lengths)) _ lengthsRight
-    ∙ rw walk
-    (stage-none _ _ (neither-or _ _ (le-ltb (length (sectionOf input dnaNumber)) (length (sectionOf input dnaNumber)) (omega arith)) refl)))
+    let dna : List ℕ = sectionOf input dnaNumber in
+    checked-none _ _ _ (neither-or _ _ (fits .fits) header)
+    ∙ andThen-found _ (refusedAs-found (λ n. ofRead 0 9) (lengths-find input (divided .lengths) (d .lengths-are) .1))
+    (checked-none _ _ _ lengthsRight
+    ∙ andThen-found _ (divides-walk bases (divided .lengths) (sectionOf input nNumber) dna (divided .division) (d .divides))
+    (checked-none _ _ _ (neither-or _ _ (le-ltb (length dna) (length dna) (omega arith)) refl)))
 
 -- A well-formed block is accepted with every division of it, whatever follows.
 pub block-accepts : (bases : ℕ) (reference block rest : List ℕ) (divided : BlockDivision) → ReferenceFits bases reference
-    → WellFormed bases block → DividesBlock bases block divided → blockAnswer bases reference (block ++ rest) ≡ accepts divided
+    → WellFormed bases block → DividesBlock bases block divided
+    → blockAnswer bases reference (block ++ rest) ≡ found divided (length block)
 block-accepts bases reference block rest divided fits wf d =
     let right : HeaderRight block = faults-right block (wf .noHeaderFault) in
     let s : SameBlock (block ++ rest) block = same-append block rest (right .table) (right .inside) in
@@ -257,6 +209,7 @@ block-accepts bases reference block rest divided fits wf d =
     (lengthFaults-same block (block ++ rest) (divided .lengths) (back s)
     (subst (λ (l : List ℕ). NoneFits (lengthFaults block l)) (sym lengths) (wf .noLengthFault)))
     (divides-same bases block (block ++ rest) divided (back s) d)
+    ∙ ap (found divided) (size ∙ sym (wf .exact))
 
 -- ---- Accepted, then well-formed
 
@@ -278,49 +231,54 @@ groups-counted input lengths are none =
     ∙ ap groupCount (sym many)
 
 -- What an accepted input begins with.
-pub record Accepted (bases : ℕ) (input : List ℕ) (divided : BlockDivision) : Type 0 where
+pub record Accepted (bases : ℕ) (input : List ℕ) (divided : BlockDivision) (next : ℕ) : Type 0 where
   pub header : NoneFits (headerFaults input)
   pub lengths : NoneFits (lengthFaults input (divided .lengths))
   pub divides : DividesBlock bases input divided
+  pub size : next ≡ blockLength (headerOf input)
 
-pub block-found : (bases : ℕ) (reference input : List ℕ) (divided : BlockDivision) → AllBytes input
-    → blockAnswer bases reference input ≡ accepts divided → Accepted bases input divided
-unfolding blockAnswer any lengthFaults nSectionWrong
-block-found bases reference input divided bytes e =
-    let first = stage-accepts _ _ e in
+pub block-found : (bases : ℕ) (reference input : List ℕ) (divided : BlockDivision) (next : ℕ) → AllBytes input
+    → blockAnswer bases reference input ≡ found divided next → Accepted bases input divided next
+unfolding blockAnswer dnaTrailing any
+block-found bases reference input divided next bytes e =
+    let first = checked-found (ofRead 0) _ _ e in
     let header = or-neither (referenceSizeWrong bases reference) _ (first .0) in
-    lengthsStage-parts (lengthsAnswer input) _ (first .1) (λ lengths next e₁ e₂.
-    let second = stage-accepts (lengthFaults input lengths) _ e₂ in
-    let are : LengthsAre input lengths = lengths-found input lengths next (section-bytes input sizeNumber bytes) e₁ in
-    let groups = groups-counted input lengths are (second .0) in
-    dnaStage-parts (length (sectionOf input dnaNumber)) (sectionWalk bases lengths (sectionOf input nNumber) (sectionOf input dnaNumber)) _ (second .1)
-    (λ division end e₃ left e₄.
-    let is : record { lengths = lengths; division = division } ≡ divided = accepts-same e₄ in
-    subst (λ (d : BlockDivision). Accepted bases input d) is
+    let nSection : List ℕ = sectionOf input nNumber in
+    let dna : List ℕ = sectionOf input dnaNumber in
+    andThen-parts (refusedAs (λ n. ofRead 0 9) (lengthsAnswer input)) _ (first .1) (λ lengths end e₁ e₂.
+    let second = checked-found (ofRead 0) (lengthFaults input lengths) _ e₂ in
+    let are : LengthsAre input lengths =
+    lengths-found input lengths end (section-bytes input sizeNumber bytes) (found-refusedAs (λ n. ofRead 0 9) (lengthsAnswer input) e₁) in
+    andThen-parts (sectionWalk bases lengths nSection dna) _ (second .1) (λ division last e₃ e₄.
+    let third = checked-found (ofRead 0) _ _ e₄ in
+    let same = found-same (third .1) in
+    let left : length dna ≤ last = ltb-false last (length dna) (or-neither (ltb last (length dna)) _ (third .0) .0) in
+    subst (λ (d : BlockDivision). Accepted bases input d next) (same .0)
     (record {
       header = header .1;
       lengths = second .0;
       divides = record {
         lengths-are = are;
         divides =
-            walk-divides bases lengths (sectionOf input nNumber) (sectionOf input dnaNumber) division end
-            (section-bytes input dnaNumber bytes) groups e₃ left;
+            walk-divides bases lengths nSection dna division last (section-bytes input dnaNumber bytes)
+            (groups-counted input lengths are (second .0)) e₃ left;
       };
+      size = sym (same .1);
     })))
 
 -- The block at the start of an input that earns no fault of 2 to 8.
-pub record FirstBlock (bases : ℕ) (input : List ℕ) (divided : BlockDivision) : Type 0 where
+pub record FirstBlock (bases : ℕ) (input : List ℕ) (divided : BlockDivision) (next : ℕ) : Type 0 where
   pub block : List ℕ
   pub rest : List ℕ
   pub begins : input ≡ block ++ rest
-  pub size : length block ≡ blockLength (headerOf input)
+  pub size : length block ≡ next
   pub wellFormed : WellFormed bases block
   pub is : wellFormed .divided ≡ divided
 
 -- An accepted input begins with a well-formed block, divided as the answer says.
-pub first-block : (bases : ℕ) (input : List ℕ) (divided : BlockDivision) → AllBytes input → Accepted bases input divided
-    → FirstBlock bases input divided
-first-block bases input divided bytes a =
+pub first-block : (bases : ℕ) (input : List ℕ) (divided : BlockDivision) (next : ℕ) → AllBytes input
+    → Accepted bases input divided next → FirstBlock bases input divided next
+first-block bases input divided next bytes a =
     let right : HeaderRight input = faults-right input (a .header) in
     let n : ℕ = blockLength (headerOf input) in
     let block : List ℕ = take n input in
@@ -336,7 +294,7 @@ first-block bases input divided bytes a =
       block = block;
       rest = rest;
       begins = sym whole;
-      size = size;
+      size = size ∙ sym (a .size);
       wellFormed = record {
         bytes = below-take input n bytes;
         exact = sym own;

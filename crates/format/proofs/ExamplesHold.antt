@@ -6,97 +6,43 @@ use Rattle.base.specs.Lists.{total, keep, placesWhere, stepsFrom}
 use Rattle.base.specs.Numbers.{signed, nonNegative}
 use Rattle.base.specs.Paste.{pasted}
 use Rattle.base.proofs.Tests.{belowTest, test-below}
-use Rattle.dna.specs.Record.{global}
+use Rattle.dna.specs.SizesAt.{fixedLengths, lengthsGiven}
 use Rattle.dna.specs.Division.{readEnds}
-use Rattle.dna.specs.Sums.{reference, entry, oneRead}
 use Rattle.dna.proofs.SumsHold.{computed}
 use Rattle.dna.proofs.SumsAnsweredHold.{walking}
-use Rattle.format.specs.Header.{headerOf, flagSet, readCount}
-use Rattle.format.specs.Sections.{sectionLengths, sectionStart, sectionLength, sectionOf, blockLength}
-use Rattle.format.specs.HeaderFaults.{
-  signedBelow,
-  signedOutside,
-  headerTruncated,
-  magicWrong,
-  versionUnsupported,
-  headerLengthTooSmall,
-  flagUnsupported,
-  readCountOutOfRange,
-  sectionsTruncated,
-  headerFaults,
-}
+use Rattle.format.specs.Header.{headerOf, int32Bytes, headerBytes, flagSet, readCount}
+use Rattle.format.specs.Sections.{sectionLengths, sectionStart, sectionLength, sectionOf}
+use Rattle.format.specs.Sections.{blockLength}
+use Rattle.format.specs.HeaderFaults.{signedBelow, signedOutside, headerTruncated, magicWrong}
+use Rattle.format.specs.HeaderFaults.{versionUnsupported, headerLengthTooSmall}
+use Rattle.format.specs.HeaderFaults.{flagUnsupported, readCountOutOfRange, sectionsTruncated}
+use Rattle.format.specs.HeaderFaults.{tableFaults, headerFaults}
 use Rattle.format.specs.Lengths.{dnaSizeWrong, nSectionWrong, lengthFaults}
-use Rattle.format.specs.Joined.{blockReads, blockCounts, fileCounts}
+use Rattle.format.specs.Joined.{blockReads, blockCounts, fileReads, fileCounts}
 use Rattle.format.specs.Outcome.{modulo64}
-use Rattle.format.specs.BlockAnswer.{
-  headerRefused,
-  idAnswer,
-  stage,
-  lReadInvalid,
-  headerLengths,
-  lengthsAnswer,
-  lengthsStage,
-  dnaStage,
-  blockAnswer,
-  blockOutcome,
-  roomAnswer,
-  decodeAnswer,
-  decoded,
-  lettersAfter,
-  endsAfter,
-  decodedLetters,
-  decodedEnds,
-}
-use Rattle.format.specs.FileAnswer.{
-  afterBlock,
-  onBlock,
-  blocksAnswer,
-  fileAnswer,
-  fileOutcome,
-  validated,
-}
-use Rattle.format.specs.FixedRule.{
-  nOffsetsOf,
-  fillerCount,
-  gapEntries,
-  entriesOfGaps,
-  differsAt,
-  gapsTo,
-  gapsOf,
-  padded,
-  withoutN,
-  alignedCount,
-  expectedAt,
-  candidateGaps,
-  candidateEntries,
-  clippedCodes,
-  placeUsed,
-  stepFits,
-  fieldFor,
-  alignedFields,
-  choiceFor,
-  isPerfect,
-  writtenAs,
-  written,
-  writtenFrom,
-}
-use Rattle.format.specs.Examples.{
-  blockWith,
-  listingBlock,
-  leftOverBlock,
-  ListingRight,
-  longReference,
-  shifted,
-  turnedRead,
-  placeAt,
-  RuleRight,
-  OrdersRight,
-}
-use Rattle.format.specs.EncodeAnswer.{encodeFaults}
+use Rattle.format.specs.BlockAnswer.{headerRefused, idAnswer, lengthsAnswer, dnaTrailing}
+use Rattle.format.specs.BlockAnswer.{blockAnswer, blockOutcome, capacityTooSmall}
+use Rattle.format.specs.BlockAnswer.{decodeAnswer, decoded, lettersAfter, endsAfter}
+use Rattle.format.specs.BlockAnswer.{decodedLetters, decodedEnds}
+use Rattle.format.specs.FileAnswer.{inFirst, inLater, blocksAnswer, fileAnswer, fileOutcome}
+use Rattle.format.specs.FileAnswer.{validated}
+use Rattle.format.specs.RuleEntries.{fillerCount, gapEntries, entriesOfGaps, differsAt}
+use Rattle.format.specs.RuleEntries.{gapsTo, gapsOf}
+use Rattle.format.specs.RuleRecord.{nOffsetsOf, padded, withoutN, alignedCount, expectedAt}
+use Rattle.format.specs.RuleRecord.{candidateGaps, candidateEntries, clippedCodes, placeUsed}
+use Rattle.format.specs.RuleRecord.{storedPosition, stepFits, fieldFor, alignedFields}
+use Rattle.format.specs.RuleRecord.{choiceFor, isPerfect, writtenAs, written}
+use Rattle.format.specs.RuleBlock.{codeOfLetter, writtenFrom, writtenGroup, writtenDivision}
+use Rattle.format.specs.RuleBlock.{writtenNSection, storedFrom, allEqual, writtenSizes}
+use Rattle.format.specs.RuleBlock.{headerWith, writtenHeader, writtenBlock, ruleBlock}
+use Rattle.format.specs.EncodeAnswer.{readsOfInput, candidatesOf, blockOf}
+use Rattle.format.specs.Examples.{fifthRow, blockWith, listingBlock, leftOverBlock}
+use Rattle.format.specs.Examples.{listingDivided, ListingRight, longReference, shifted}
+use Rattle.format.specs.Examples.{turnedRead, placeAt, sevenReads, sevenBlock, RuleRight}
 
--- All that a block's answer computes with.
+-- All that a block's answer computes with: to unfold this is to unfold each.
 unfoldable answering : Unit {0}
-unfolding walking total signed nonNegative pasted readEnds headerOf flagSet readCount sectionLengths sectionStart sectionLength sectionOf blockLength signedBelow signedOutside headerTruncated magicWrong versionUnsupported headerLengthTooSmall flagUnsupported readCountOutOfRange sectionsTruncated headerFaults dnaSizeWrong nSectionWrong lengthFaults blockReads blockCounts fileCounts modulo64 headerRefused idAnswer stage lReadInvalid headerLengths lengthsAnswer lengthsStage dnaStage blockAnswer blockOutcome roomAnswer decodeAnswer decoded lettersAfter endsAfter decodedLetters decodedEnds afterBlock onBlock blocksAnswer fileAnswer fileOutcome validated flatten blockWith listingBlock leftOverBlock
+unfolding walking total signed nonNegative pasted readEnds fixedLengths lengthsGiven headerOf flagSet readCount sectionLengths sectionStart sectionLength sectionOf blockLength signedBelow signedOutside headerTruncated magicWrong versionUnsupported headerLengthTooSmall flagUnsupported readCountOutOfRange sectionsTruncated tableFaults headerFaults dnaSizeWrong nSectionWrong lengthFaults blockReads blockCounts fileReads fileCounts modulo64 headerRefused idAnswer lengthsAnswer dnaTrailing blockAnswer blockOutcome capacityTooSmall decodeAnswer decoded lettersAfter endsAfter decodedLetters decodedEnds inFirst inLater blocksAnswer fileAnswer fileOutcome validated flatten fifthRow blockWith listingBlock leftOverBlock listingDivided
 answering = tt
 
 -- 01's listing block is well-formed and decodes as its listing says.
@@ -108,12 +54,7 @@ listing-right =
         bytes = test-below 256 _ refl;
         exact = refl;
         noHeaderFault = refl;
-        divided = record {
-          lengths = 4 ∷ [];
-          division =
-              oneRead (0 ∷ 0x80 ∷ 0 ∷ 0 ∷ 0x0c ∷ 0 ∷ 0 ∷ 0 ∷ 0 ∷ 0x0b ∷ [])
-              (record { fields = global 0 (entry 2 3 ∷ []); nOffsets = [] });
-        };
+        divided = listingDivided;
         divides = record {
           lengths-are = record {
             empty = refl;
@@ -148,21 +89,19 @@ listing-right =
       outcome = refl;
       letters = refl;
       ends = refl;
-      judged = refl;
+      one-block = refl;
+      two-blocks = refl;
+      file-reads = refl;
       left-over = refl;
     }
 
--- The faults of header, lengths and writer stand in 01's order.
-pub orders-right : OrdersRight
-unfolding headerFaults lengthFaults encodeFaults
-orders-right =
-    record {
-      header = λ input. refl;
-      lengths = λ input lengths. refl;
-      writer = λ bases reference input room. refl;
-    }
+-- All that the fixed rule computes with.
+unfoldable writing : Unit {0}
+unfolding computed keep placesWhere stepsFrom total flatten nOffsetsOf fillerCount gapEntries entriesOfGaps differsAt gapsTo gapsOf padded withoutN alignedCount expectedAt candidateGaps candidateEntries clippedCodes placeUsed storedPosition stepFits fieldFor alignedFields choiceFor isPerfect writtenAs written writtenFrom codeOfLetter writtenGroup writtenDivision writtenNSection storedFrom allEqual writtenSizes int32Bytes headerBytes headerWith writtenHeader writtenBlock ruleBlock readsOfInput candidatesOf blockOf longReference shifted turnedRead placeAt sevenReads sevenBlock
+writing = tt
 
--- The fixed rule writes 31 entries, puts 32 into a raw record, and fills on the strand of the read.
+-- The fixed rule writes 31 entries, puts 32 into a raw record, fills on the strand of the read, and makes this block of
+-- seven reads.
 pub rule-right : RuleRight
-unfolding computed keep placesWhere stepsFrom nOffsetsOf fillerCount gapEntries entriesOfGaps differsAt gapsTo gapsOf padded withoutN alignedCount expectedAt candidateGaps candidateEntries clippedCodes placeUsed stepFits fieldFor alignedFields choiceFor isPerfect writtenAs written writtenFrom longReference shifted turnedRead placeAt
-rule-right = refl
+unfolding writing
+rule-right = record { entries = refl; block = refl; step-65535 = refl; step-65536 = refl }

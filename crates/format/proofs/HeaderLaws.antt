@@ -15,17 +15,10 @@ use Rattle.base.proofs.Tests.{absurd-test, or-neither, neither-or}
 use Rattle.format.specs.Header.{Header, headerOf}
 use Rattle.format.specs.Sections.{sectionStart, sectionLength, sectionOf, blockLength}
 use Rattle.format.proofs.SectionLaws.{section-inside}
-use Rattle.format.specs.HeaderFaults.{
-  signedBelow,
-  headerTruncated,
-  magicWrong,
-  versionUnsupported,
-  headerLengthTooSmall,
-  flagUnsupported,
-  readCountOutOfRange,
-  sectionsTruncated,
-  headerFaults,
-}
+use Rattle.format.specs.HeaderFaults.{signedBelow, headerTruncated, magicWrong}
+use Rattle.format.specs.HeaderFaults.{versionUnsupported, headerLengthTooSmall}
+use Rattle.format.specs.HeaderFaults.{flagUnsupported, readCountOutOfRange, sectionsTruncated}
+use Rattle.format.specs.HeaderFaults.{tableFaults, headerFaults}
 
 -- A number that lies in the block.
 le-append : (width : ℕ) (block rest : List ℕ) (at : ℕ) → at + width ≤ length block → le width (block ++ rest) at ≡ le width block at
@@ -103,7 +96,7 @@ pub record HeaderRight (input : List ℕ) : Type 0 where
   pub inside : blockLength (headerOf input) ≤ length input
 
 pub faults-right : (input : List ℕ) → NoneFits (headerFaults input) → HeaderRight input
-unfolding headerFaults any headerTruncated headerLengthTooSmall sectionsTruncated blockLength
+unfolding headerFaults tableFaults any headerTruncated headerLengthTooSmall sectionsTruncated blockLength
 faults-right input none =
     let f₂ = or-neither (headerTruncated input) _ none in
     let f₃ = or-neither (magicWrong input) _ (f₂ .1) in
@@ -121,7 +114,7 @@ faults-right input none =
 -- Two inputs with one header, both long enough, have the same faults of 2 to 8.
 pub faults-same : (one other : List ℕ) → headerOf one ≡ headerOf other → NoneFits (headerFaults one) → 121 ≤ length other
     → blockLength (headerOf other) ≤ length other → NoneFits (headerFaults other)
-unfolding headerFaults any headerTruncated magicWrong versionUnsupported headerLengthTooSmall flagUnsupported readCountOutOfRange sectionsTruncated
+unfolding headerFaults tableFaults any headerTruncated magicWrong versionUnsupported headerLengthTooSmall flagUnsupported readCountOutOfRange sectionsTruncated
 faults-same one other e none table whole =
     let f₂ = or-neither (headerTruncated one) _ none in
     let f₃ = or-neither (magicWrong one) _ (f₂ .1) in

@@ -9,10 +9,10 @@ use borrow.Author.Tests.{lt-ltb, le-ltb}
 use Rattle.base.specs.Numbers.{le, signed, int32}
 use Rattle.base.specs.Place.{At}
 use Rattle.base.proofs.NumberLaws.{length-leBytes, le-leBytes}
-use Rattle.base.proofs.PlaceLaws.{at-self, at-left, at-right, at-to}
-use Rattle.base.proofs.ScanLaws.{cond-yes, cond-no}
+use Rattle.base.proofs.AtLaws.{at-self, at-left, at-right, at-to}
+use Rattle.base.proofs.AnswerLaws.{cond-yes, cond-no}
 use Rattle.format.specs.Header.{Header, headerOf}
-use Rattle.format.specs.FixedRule.{int32Bytes, headerBytes}
+use Rattle.format.specs.Header.{int32Bytes, headerBytes}
 
 -- A signed number has 32 bits.
 abbrev pub SignedFits : (number : ℤ) → Type 0

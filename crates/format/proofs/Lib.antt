@@ -1,6 +1,7 @@
 pub mod HeaderLaws
 pub mod BlockLaws
 pub mod AnswerNumbers
+pub mod CountLaws
 pub mod RefusedNothing
 pub mod ReadsExactly
 pub mod JudgesFiles

@@ -17,7 +17,8 @@ demand-2-reading bases reference fits =
       accepted = λ input letters ends bytes. (
         λ zero′.
             let d : Decoded bases reference input letters ends = decoded-zero bases reference input letters ends zero′ in
-            let f = first-block bases input (d .divided) bytes (block-found bases reference input (d .divided) bytes (d .answered)) in
+            let f = first-block bases input (d .divided) (d .next) bytes
+            (block-found bases reference input (d .divided) (d .next) bytes (d .answered)) in
             record { block = f .block; rest = f .rest; begins = f .begins; wellFormed = f .wellFormed; room = rw (f .is) (d .room) },
         λ r.
             subst (λ (x : List ℕ). decoded bases reference x letters ends .number ≡ 0) (sym (r .begins))
@@ -28,7 +29,8 @@ demand-2-reading bases reference fits =
       validates = λ input bytes. (
         λ zero′.
             let d = validated-zero bases reference input zero′ in
-            let f = first-block bases input (d .0) bytes (block-found bases reference input (d .0) bytes (d .1)) in
+            let f = first-block bases input (d .divided) (d .next) bytes
+            (block-found bases reference input (d .divided) (d .next) bytes (d .answered)) in
             (f .block, f .rest, f .begins, f .wellFormed),
         λ r.
             subst (λ (x : List ℕ). validatedBlock bases reference x .number ≡ 0) (sym (r .2))

@@ -1,11 +1,11 @@
 -- Laws of the table of contents, its faults and the places of the sections, as code reads them.
 -- Assumes nothing.
-use mathlib.Core.Path.{_≡_, refl, sym, ap, ap₂, _∙_}
+use mathlib.Core.Path.{_≡_, refl, sym, ap, _∙_}
 use Prim.Native.Nat.{ℕ, suc, _+_, _-_, _*_, _≤_, _<_}
 use native.Mathlib.Omega.{arith}
 use mathlib.Core.Bool.{true, false}
 use mathlib.Core.List.{List, []}
-use lib.ListN.{length, getD, take, drop, length-drop, List·getD-eq-default}
+use lib.ListN.{length, getD, drop, length-drop, List·getD-eq-default}
 use lib.Seq.{take-all, length-take-le}
 use lib.IntN.{ℤ, pos, negsuc}
 use lib.Signed.{ltZ, leZ}
@@ -14,28 +14,18 @@ use borrow.Author.Tests.{lt-ltb, le-ltb, le-leb, eq-eqb, ne-eqb, ltb-false}
 use Rattle.base.specs.Lists.{build, total}
 use Rattle.base.specs.Numbers.{le, nonNegative}
 use Rattle.base.specs.Faults.{Fault, fault}
-use Rattle.base.specs.Scan.{firstNumber}
+use Rattle.base.specs.Answer.{firstNumber}
 use Rattle.base.proofs.Tests.{absurd-test}
 use Rattle.base.proofs.ListLaws.{getD-build}
 use Rattle.base.proofs.SumLaws.{total-take-suc, total-take-le}
-use Rattle.base.proofs.FaultLaws.{any-firstNumber, any-none}
+use Rattle.base.proofs.AnswerLaws.{any-firstNumber}
+use Rattle.base.proofs.Tests.{any-none}
 use Rattle.format.specs.Header.{Header, headerOf, tableLength, readCount}
-use Rattle.format.specs.Sections.{
-  sectionLengths,
-  sectionStart,
-  sectionLength,
-  sectionOf,
-  blockLength,
-}
-use Rattle.format.specs.HeaderFaults.{
-  maxReads,
-  signedBelow,
-  signedOutside,
-  headerTruncated,
-  readCountOutOfRange,
-  sectionsTruncated,
-  headerFaults,
-}
+use Rattle.format.specs.Sections.{sectionLengths, sectionStart, sectionLength, sectionOf}
+use Rattle.format.specs.Sections.{blockLength}
+use Rattle.format.specs.HeaderFaults.{maxReads, signedBelow, signedOutside, headerTruncated}
+use Rattle.format.specs.HeaderFaults.{readCountOutOfRange, sectionsTruncated, tableFaults}
+use Rattle.format.specs.HeaderFaults.{headerFaults}
 use Rattle.format.specs.BlockAnswer.{headerRefused, sectionAnswer, spanAnswer}
 
 -- ---- Signed numbers against a bound
@@ -119,7 +109,7 @@ section-inside header number =
 -- A header is refused exactly where its first number is above 0.
 pub headerRefused-number : (input : List ℕ)
     → headerRefused input ≡ ltb 0 (firstNumber (headerFaults input))
-unfolding headerRefused headerFaults
+unfolding headerRefused headerFaults tableFaults
 headerRefused-number input =
     any-firstNumber (headerFaults input)
     (omega arith, (omega arith, (omega arith, (omega arith, (omega arith, (omega arith, (omega arith, tt)))))))
@@ -141,26 +131,26 @@ refused-number input number e some =
 -- No row of a header that is not refused fits.
 fault-fails : (input : List ℕ) → headerRefused input ≡ false → (k : ℕ) → k < 7
     → getD (headerFaults input) k (fault 0 false) .fits ≡ false
-unfolding headerRefused headerFaults
+unfolding headerRefused headerFaults tableFaults
 fault-fails input e k h =
     any-none (λ (f : Fault). f .fits) (headerFaults input) e k (fault 0 false) h
 
 -- Its table is there.
 pub accepted-table : (input : List ℕ) → headerRefused input ≡ false → tableLength ≤ length input
-unfolding headerFaults headerTruncated
+unfolding headerFaults tableFaults headerTruncated
 accepted-table input e = ltb-false (length input) 121 (fault-fails input e 0 (omega arith))
 
 -- So is all of its block.
 pub accepted-block : (input : List ℕ) → headerRefused input ≡ false
     → blockLength (headerOf input) ≤ length input
-unfolding headerFaults sectionsTruncated
+unfolding headerFaults tableFaults sectionsTruncated
 accepted-block input e =
     ltb-false (length input) (blockLength (headerOf input)) (fault-fails input e 6 (omega arith))
 
 -- Its reads are at most 50,000.
 pub accepted-count : (input : List ℕ) → headerRefused input ≡ false
     → readCount (headerOf input) ≤ maxReads
-unfolding headerFaults readCountOutOfRange readCount
+unfolding headerFaults tableFaults readCountOutOfRange readCount
 accepted-count input e =
     signedOutside-within maxReads (headerOf input .«n_reads») (fault-fails input e 5 (omega arith))
 
@@ -186,20 +176,6 @@ length-sectionOf input number e =
 module _ (input : List ℕ) (number index start size : ℕ) (accepted : headerRefused input ≡ false)
     (same : index ≡ number) (starts : start ≡ sectionStart (headerOf input) index)
     (sized : size ≡ sectionLength (headerOf input) index) where
-  -- It is inside the input.
-  pub part-fits : start + size ≤ length input
-  part-fits = omega (arith, section-inside (headerOf input) index, accepted-block input accepted)
-
-  -- It is the answer.
-  pub part-answer : take (start + size - start) (drop start input) ≡ sectionAnswer input number
-  unfolding sectionAnswer sectionOf
-  part-answer =
-      let e : start + size - start ≡ size = omega arith in
-      simp accepted
-      (ap₂ (λ (n from : ℕ). take n (drop from input))
-      (e ∙ sized ∙ ap (sectionLength (headerOf input)) same)
-      (starts ∙ ap (sectionStart (headerOf input)) same))
-
   -- Where it stands, if it has a byte.
   pub span-found : (size ≡ 0 → ⊥) → record { offset = start; size = size } ≡ spanAnswer input number
   unfolding spanAnswer
@@ -219,16 +195,6 @@ span-empty input number index size accepted same sized none =
     let long : size ≡ sectionLength (headerOf input) number =
     sized ∙ ap (sectionLength (headerOf input)) same in
     rw (← long) (simp (accepted, eq-eqb size 0 none))
-
--- Its answer is empty.
-pub answer-empty : (input : List ℕ) (number index size : ℕ) → headerRefused input ≡ false
-    → index ≡ number → size ≡ sectionLength (headerOf input) index → size ≡ 0
-    → sectionAnswer input number ≡ []
-unfolding sectionAnswer sectionOf
-answer-empty input number index size accepted same sized none =
-    let long : sectionLength (headerOf input) number ≡ 0 =
-    sym (sized ∙ ap (sectionLength (headerOf input)) same) ∙ none in
-    simp (accepted, long)
 
 -- So it is where the header is refused.
 pub answer-refused : (input : List ℕ) (number : ℕ) → headerRefused input ≡ true

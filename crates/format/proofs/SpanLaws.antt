@@ -10,7 +10,7 @@ use lib.Dec.{eqb}
 use borrow.Author.Tests.{eqb-true}
 use Rattle.base.specs.Lists.{part}
 use Rattle.base.proofs.ListLaws.{by-test}
-use Rattle.base.proofs.ScanLaws.{cond-yes, cond-no}
+use Rattle.base.proofs.AnswerLaws.{cond-yes, cond-no}
 use Rattle.format.specs.Header.{headerOf}
 use Rattle.format.specs.Sections.{sectionStart, sectionLength, sectionOf}
 use Rattle.format.specs.BlockAnswer.{headerRefused, sectionAnswer, Span, spanAnswer}

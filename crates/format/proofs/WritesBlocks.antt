@@ -13,37 +13,24 @@ use borrow.Author.Tests.{eq-eqb}
 use Rattle.base.specs.Lists.{total, placesFrom}
 use Rattle.base.specs.Paste.{pasted}
 use Rattle.base.proofs.GroupLaws.{length-flatten}
-use Rattle.base.proofs.ScanLaws.{cond-yes}
+use Rattle.base.proofs.AnswerLaws.{cond-yes}
 use Rattle.dna.specs.Reference.{ReferenceFits, letterOfCode}
 use Rattle.dna.specs.Letters.{recordLetters}
-use Rattle.dna.specs.Counts.{sumCounts, recordCounts}
-use Rattle.dna.specs.Division.{Read, Division, divisionBytes, divisionLetters, divisionCounts, readEnds}
+use Rattle.dna.specs.Counts.{Counted, recordCounts}
+use Rattle.dna.specs.Division.{Read, Division, divisionBytes, divisionLetters, readEnds}
+use Rattle.dna.specs.Rules.{totals, exact}
 use Rattle.format.specs.Header.{headerOf}
 use Rattle.format.specs.WellFormed.{BlockDivision, DividesBlock, WellFormed}
-use Rattle.format.specs.Joined.{blockReads, blockCounts}
+use Rattle.format.specs.Joined.{blockReads}
 use Rattle.format.specs.Outcome.{acceptedBlock, refusal}
 use Rattle.format.specs.BlockAnswer.{decoded, decodedLetters, decodedEnds}
-use Rattle.format.specs.FixedRule.{
-  Candidate,
-  Written,
-  writtenFrom,
-  writtenDivision,
-  writtenNSection,
-  writtenSizes,
-  writtenHeader,
-  ruleBlock,
-}
-use Rattle.format.specs.EncodeAnswer.{EncodeInput, candidatesOf, blockOf, encodeNumber, encoded, encodedBuffer}
-use Rattle.format.specs.Demands.{
-  Room,
-  Decodes,
-  LentFits,
-  Writable,
-  codesOf,
-  ruleCounts,
-  Writes,
-  Demand2Writing,
-}
+use Rattle.format.specs.RuleRecord.{Candidate, Written}
+use Rattle.format.specs.RuleBlock.{writtenFrom, writtenDivision, writtenNSection}
+use Rattle.format.specs.RuleBlock.{writtenSizes, writtenHeader, ruleBlock}
+use Rattle.format.specs.EncodeAnswer.{EncodeInput, candidatesOf, blockOf, encodeNumber}
+use Rattle.format.specs.EncodeAnswer.{encoded, encodedBuffer}
+use Rattle.format.specs.Demands.{Room, readCounts, Decodes, LentFits, Writable, codesOf}
+use Rattle.format.specs.Demands.{ruleCounts, Writes, Demand2Writing}
 use Rattle.format.proofs.WrittenDivision.{AllMeet, asRead, pieceOf, written-reads}
 use Rattle.format.proofs.WrittenBlock.{WrittenReads, all-meet}
 use Rattle.format.proofs.WrittenWellFormed.{ruleDivided, rule-header, rule-wellFormed}
@@ -72,14 +59,13 @@ rule-reads bases reference codes candidates r =
     ∙ meet-letters reference codes ws meet
 
 rule-counts : (bases : ℕ) (reference : List ℕ) (codes : List (List ℕ)) (candidates : List Candidate) → WrittenReads codes candidates
-    → blockCounts reference bases (ruleDivided bases reference codes candidates) ≡ ruleCounts bases reference codes candidates
-unfolding blockCounts divisionCounts asRead pieceOf
+    → readCounts bases reference (ruleDivided bases reference codes candidates) ≡ ruleCounts bases reference codes candidates
+unfolding asRead pieceOf
 rule-counts bases reference codes candidates r =
     let ws : List Written = writtenFrom bases reference 0 codes candidates in
     let meet : AllMeet reference codes ws = all-meet bases reference 0 codes candidates (r .counted) (r .below) (r .fits) in
-    ap sumCounts
-    (ap (map (λ (read : Read). recordCounts reference (read .context) (read .piece .stored))) (written-reads bases reference codes candidates meet)
-    ∙ map-map (λ (read : Read). recordCounts reference (read .context) (read .piece .stored)) asRead ws)
+    ap (map (λ (read : Read). recordCounts reference (read .context) (read .piece .stored))) (written-reads bases reference codes candidates meet)
+    ∙ map-map (λ (read : Read). recordCounts reference (read .context) (read .piece .stored)) asRead ws
 
 -- ---- The block of an input
 
@@ -111,7 +97,8 @@ decodes-back : (bases : ℕ) (reference : List ℕ) (reads : List (List ℕ)) (i
     → ReferenceFits bases reference → LentFits input → Writable reads input
     → total (map length reads) ≤ length letters → length reads ≤ length ends
     → (decoded bases reference (blockOf bases reference input ++ rest) letters ends
-    ≡ acceptedBlock (length (blockOf bases reference input)) (ruleCounts bases reference (codesOf reads) (candidatesOf input)))
+    ≡ acceptedBlock (length (blockOf bases reference input))
+    (totals exact (ruleCounts bases reference (codesOf reads) (candidatesOf input))))
     × (decodedLetters bases reference (blockOf bases reference input ++ rest) letters ends ≡ pasted letters 0 (flatten reads))
     × (decodedEnds bases reference (blockOf bases reference input ++ rest) letters ends ≡ pasted ends 0 (placesFrom 0 (map length reads)))
 unfolding readEnds
@@ -130,7 +117,8 @@ decodes-back bases reference reads input rest letters ends fits lent w room₁ r
     let r : Decodes bases reference (blockOf bases reference input) (blockOf bases reference input ++ rest) letters ends divided
     = decodes bases reference (blockOf bases reference input) rest letters ends divided fits (d .wellFormed) (d .divides) room in (
       r .outcome
-          ∙ ap (acceptedBlock (length (blockOf bases reference input))) (rule-counts bases reference (codesOf reads) (candidatesOf input) given),
+          ∙ ap (λ (counts : List Counted). acceptedBlock (length (blockOf bases reference input)) (totals exact counts))
+          (rule-counts bases reference (codesOf reads) (candidatesOf input) given),
       r .letters-are ∙ ap (λ (rs : List (List ℕ)). pasted letters 0 (flatten rs)) back,
       r .ends-are ∙ ap (λ (l : List ℕ). pasted ends 0 (placesFrom 0 l)) sizes,
     )

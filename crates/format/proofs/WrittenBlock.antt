@@ -4,27 +4,20 @@ use Prim.Native.Nat.{ℕ, suc, _+_, _*_, _^_, _≤_, _<_}
 use native.Mathlib.Omega.{arith}
 use mathlib.Core.Bool.{false}
 use mathlib.Core.List.{List, [], _∷_, _++_, map, flatten, flatMap}
-use lib.ListN.{length, getD, length-append, length-map}
+use lib.ListN.{length, length-append, length-map}
 use Rattle.base.specs.Lists.{any, total, All, Below, AllBytes}
 use Rattle.base.specs.Groups.{groupCount, inGroups}
 use Rattle.base.proofs.ListLaws.{below-nil, below-cons, below-append}
-use Rattle.base.proofs.PackedLaws.{byteOf-below}
-use Rattle.base.proofs.BitLaws.{cond-small}
+use Rattle.base.proofs.FlagByteLaws.{flagByte-byte}
 use Rattle.base.proofs.GroupLaws.{length-inGroups, flatten-inGroups, all-inGroups}
 use Rattle.dna.specs.Sizes.{lengthInvalid}
 use Rattle.dna.specs.Record.{recordBytes}
 use Rattle.dna.specs.Division.{groupBytes, divisionBytes}
 use Rattle.dna.proofs.RecordBytes.{recordBytes-bytes}
 use Rattle.dna.proofs.RulesMean.{rules-mean}
-use Rattle.format.specs.FixedRule.{
-  Candidate,
-  Written,
-  writtenFrom,
-  bitsOf,
-  writtenGroup,
-  writtenDivision,
-  writtenNSection,
-}
+use Rattle.format.specs.RuleRecord.{Candidate, Written}
+use Rattle.format.specs.RuleBlock.{writtenFrom, writtenGroup, writtenDivision}
+use Rattle.format.specs.RuleBlock.{writtenNSection}
 use Rattle.format.proofs.WrittenRecord.{CandidateFits, written-meets}
 use Rattle.format.proofs.WrittenDivision.{AllMeet, pieceOf}
 use Rattle.format.proofs.WrittenBound.{record-length}
@@ -115,10 +108,6 @@ groups-length (ws ∷ groups) h =
       length-append ws (flatten groups),
     )
 
-bits-byte : (test : _) (ws : List Written) → bitsOf test ws < 256
-unfolding bitsOf
-bits-byte test ws = byteOf-below 2 8 _ (λ k h. cond-small (getD (map (λ w. test (w .context)) ws) k false))
-
 pieces-bytes : (ws : List Written) → All Small ws → AllBytes (flatMap (λ piece. piece .bytes) (map pieceOf ws))
 unfolding flatMap pieceOf
 pieces-bytes [] h = below-nil 256
@@ -129,14 +118,14 @@ unfolding divisionBytes flatMap groupBytes writtenGroup pieceOf
 groups-bytes [] h = below-nil 256
 groups-bytes (ws ∷ groups) h =
     below-append (groupBytes (writtenGroup ws)) _
-    (below-cons _ _ (bits-byte _ ws)
-    (below-cons _ _ (bits-byte _ ws) (below-cons _ _ (bits-byte _ ws) (below-cons _ _ (bits-byte _ ws) (pieces-bytes ws (h .0))))))
+    (below-cons _ _ (flagByte-byte _ ws)
+    (below-cons _ _ (flagByte-byte _ ws) (below-cons _ _ (flagByte-byte _ ws) (below-cons _ _ (flagByte-byte _ ws) (pieces-bytes ws (h .0))))))
     (groups-bytes groups (h .1))
 
 nSection-bytes : (groups : List (List Written)) → AllBytes (writtenNSection (map writtenGroup groups))
 unfolding writtenNSection writtenGroup
 nSection-bytes [] = below-nil 256
-nSection-bytes (ws ∷ groups) = below-cons _ _ (bits-byte _ ws) (nSection-bytes groups)
+nSection-bytes (ws ∷ groups) = below-cons _ _ (flagByte-byte _ ws) (nSection-bytes groups)
 
 -- What is known of the sections that are written.
 pub record SectionsSmall (bases : ℕ) (reference : List ℕ) (reads : List (List ℕ)) (candidates : List Candidate) : Type 0 where

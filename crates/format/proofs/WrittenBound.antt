@@ -1,38 +1,25 @@
 -- How long what is written can get: a DNA section of reads with fewer than 2 ^ 32 letters in all has fewer than
 -- 2 ^ 32 bytes. Assumes nothing.
-use mathlib.Core.Path.{_≡_, refl, _∙_}
-use Prim.Native.Nat.{ℕ, _+_, _*_, _/_, _%_, _≤_}
+use mathlib.Core.Path.{_≡_, refl}
+use Prim.Native.Nat.{ℕ, _+_, _*_, _≤_}
 use native.Mathlib.Omega.{arith}
 use mathlib.Core.Bool.{Bool, true, false, cond}
-use mathlib.Core.List.{List, [], _∷_, _++_, map, flatMap}
-use lib.ListN.{length, length-append, length-replicate, replicate}
+use mathlib.Core.List.{List, [], _∷_, _++_, flatMap}
+use lib.ListN.{length, length-append}
 use Rattle.base.specs.Lists.{total}
-use Rattle.base.specs.Numbers.{leBytes}
 use Rattle.base.proofs.ListLaws.{by-test}
 use Rattle.base.proofs.NumberLaws.{length-leBytes}
 use Rattle.base.proofs.PackedLaws.{packedLength-least}
-use Rattle.dna.specs.Varint16.{varint16Words, varint16Bytes}
-use Rattle.dna.specs.Record.{ReadContext, RecordFields, perfect, global, local, raw, raw4, StoredRecord, fieldWidth, entryByte, packedBytes, fieldsBytes, hasNList, nListBytes, recordBytes, FieldsFit, RecordFits}
-use Rattle.dna.proofs.OffsetLaws.{Steps}
-use Rattle.dna.proofs.FieldLaws.{length-entries, length-packed}
-use Rattle.dna.proofs.RulesMean.{NListHolds, RulesHold}
+use Rattle.dna.specs.Varint16.{varint16Bytes}
+use Rattle.dna.specs.Record.{ReadContext, RecordFields, perfect, global, local, raw, raw4}
+use Rattle.dna.specs.Record.{StoredRecord, fieldWidth, fieldsBytes}
+use Rattle.dna.specs.Record.{hasNList, nListBytes, recordBytes, FieldsFit, RecordFits}
+use Rattle.dna.specs.Rules.{Steps, NListHolds, RulesHold}
+use Rattle.dna.proofs.SizeBytesLaws.{length-varint16}
+use Rattle.dna.proofs.FieldLaws.{length-packed}
+use Rattle.dna.proofs.RecordSound.{length-global, length-local}
 
 -- ---- The N list
-
-words-length : (words : List ℕ) → length (flatMap (leBytes 2) words) ≡ 2 * length words
-unfolding flatMap
-words-length [] = refl
-words-length (word ∷ words) =
-    length-append (leBytes 2 word) (flatMap (leBytes 2) words) ∙ omega (arith, length-leBytes 2 word, words-length words)
-
-length-full : (n word : ℕ) → length (replicate n word) ≡ n
-length-full n word = length-replicate n word
-
-length-varint16 : (number : ℕ) → length (varint16Bytes number) ≡ 2 * (number / 32768 + 1)
-unfolding varint16Bytes varint16Words
-length-varint16 number =
-    words-length (replicate (number / 32768) 32768 ++ (number % 32768 ∷ []))
-    ∙ omega (arith, length-append (replicate (number / 32768) 32768) (number % 32768 ∷ []), length-full (number / 32768) 32768)
 
 -- Offsets lead no further than their sum.
 steps-total : (bound least start : ℕ) (offsets : List ℕ) → start ≤ bound → Steps bound least start offsets → start + total offsets ≤ bound
@@ -68,22 +55,11 @@ fields-length : (context : ReadContext) (fields : RecordFields) → FieldsFit co
 unfolding fieldsBytes
 fields-length context (perfect field) fit = omega (arith, length-leBytes (fieldWidth context) field, width-small context)
 fields-length context (global field entries) fit =
-    omega (
-      arith,
-      length-append (leBytes (fieldWidth context) field) (map entryByte entries),
-      length-leBytes (fieldWidth context) field,
-      length-entries entries,
-      width-small context,
-      fit .count,
-    )
+    omega (arith, length-global context field entries, width-small context, fit .count)
 fields-length context (local field entries left right clipped) fit =
-    let ends : List ℕ = left ∷ right ∷ packedBytes 4 4 clipped in
     omega (
       arith,
-      length-append (leBytes (fieldWidth context) field) (map entryByte entries ++ ends),
-      length-append (map entryByte entries) ends,
-      length-leBytes (fieldWidth context) field,
-      length-entries entries,
+      length-local context field entries left right clipped,
       width-small context,
       fit .count,
       fit .left-fits,

@@ -1,36 +1,24 @@
 -- The division that the fixed rule writes meets the rules, and its reads are the rule's records. Assumes nothing.
 use mathlib.Core.Path.{_≡_, refl, sym, ap, ap₂, _∙_, subst}
-use Prim.Native.Nat.{ℕ, suc, _+_, _≤_, _<_}
-use native.Mathlib.Nat.{zero-add}
-use native.Mathlib.Omega.{arith}
-use mathlib.Core.Bool.{Bool, false, cond}
+use Prim.Native.Nat.{ℕ, suc, _+_, _≤_}
+use mathlib.Core.Bool.{Bool, false}
 use mathlib.Core.List.{List, [], _∷_, _++_, map, flatten}
-use lib.ListN.{length, getD, length-map, List·getD-eq-default}
+use lib.ListN.{length, length-map}
 use Rattle.base.specs.Lists.{All}
 use Rattle.base.specs.Groups.{inGroups, byteBitStray}
-use Rattle.base.specs.Packed.{bit, byteOf}
-use Rattle.base.proofs.BitLaws.{bit-byteOf, clear-stray}
 use Rattle.base.proofs.GroupLaws.{inGroups-map, inGroups-small, flatten-inGroups}
+use Rattle.base.proofs.FlagByteLaws.{BitsAre, flag-bits, flag-clear}
 use Rattle.base.proofs.Tests.{neither-or}
 use Rattle.dna.specs.Record.{ReadContext, recordBytes}
 use Rattle.dna.specs.Alignment.{positionAfter}
-use Rattle.dna.specs.Division.{GroupFlags, Piece, Slot, Read, divisionBytes, contextOf, groupSlots, slots, readsFrom, readsOf, groupBitStray, ReadMeets, GroupsMeet, Divides}
-use Rattle.format.specs.FixedRule.{
-  Candidate,
-  Choice,
-  chooseRaw4,
-  chooseAligned,
-  chooseRaw,
-  choiceFor,
-  Written,
-  writtenAs,
-  written,
-  writtenFrom,
-  bitsOf,
-  writtenGroup,
-  writtenDivision,
-  writtenNSection,
-}
+use Rattle.dna.specs.Division.{GroupFlags, Piece, Slot, Read, divisionBytes, contextOf, groupSlots}
+use Rattle.dna.specs.Division.{slots, readsFrom, readsOf, groupBitStray, ReadMeets, GroupsMeet}
+use Rattle.dna.specs.Division.{Divides}
+use Rattle.format.specs.RuleRecord.{Candidate, Choice, chooseRaw4, chooseAligned, chooseRaw}
+use Rattle.format.specs.RuleRecord.{choiceFor, Written, writtenAs, written}
+use Rattle.format.specs.RuleBlock.{writtenFrom, writtenGroup, writtenDivision}
+use Rattle.format.specs.RuleBlock.{writtenNSection}
+use Rattle.base.specs.Groups.{flagByte}
 use Rattle.format.proofs.WrittenRecord.{Meets}
 
 -- A written record as a read of a division.
@@ -85,41 +73,11 @@ threads-right bases previous (w ∷ ws) rest h = threads-right bases _ ws rest (
 
 -- ---- The bits of a group
 
--- A flag byte has the bits of a group's records from a place on.
-abbrev BitsMatch : (test : ReadContext → Bool) (byte place : ℕ) (ws : List Written) → Type 0
-BitsMatch test byte place ws = (k : ℕ) → k < length ws → bit byte (place + k) ≡ getD (map (λ w. test (w .context)) ws) k false
-
-bits-next : (test : ReadContext → Bool) (byte place : ℕ) (w : Written) (ws : List Written) → BitsMatch test byte place (w ∷ ws)
-    → BitsMatch test byte (suc place) ws
-bits-next test byte place w ws h k l =
-    let e : suc place + k ≡ place + suc k = omega arith in
-    ap (bit byte) e ∙ h (suc k) (omega arith)
-
-bits-here : (test : ReadContext → Bool) (byte place : ℕ) (w : Written) (ws : List Written) → BitsMatch test byte place (w ∷ ws)
-    → bit byte place ≡ test (w .context)
-bits-here test byte place w ws h =
-    let e : place ≡ place + 0 = omega arith in
-    ap (bit byte) e ∙ h 0 (omega arith)
-
-bits-of : (test : ReadContext → Bool) (ws : List Written) → length ws ≤ 8 → BitsMatch test (bitsOf test ws) 0 ws
-unfolding bitsOf
-bits-of test ws small k h =
-    ap (bit (byteOf 2 8 (λ j. cond (getD (map (λ w. test (w .context)) ws) j false) 1 0))) (zero-add k)
-    ∙ bit-byteOf (λ j. getD (map (λ w. test (w .context)) ws) j false) k (omega arith)
-
-bits-clear : (test : ReadContext → Bool) (ws : List Written) → byteBitStray (length ws) (bitsOf test ws) ≡ false
-unfolding bitsOf
-bits-clear test ws =
-    clear-stray (length ws) _
-    (λ k low high.
-    bit-byteOf (λ j. getD (map (λ w. test (w .context)) ws) j false) k high
-    ∙ List·getD-eq-default (map (λ w. test (w .context)) ws) false (omega (arith, length-map ws (λ w. test (w .context)))))
-
 record FlagsMatch (flags : GroupFlags) (place : ℕ) (ws : List Written) : Type 0 where
-  perfect : BitsMatch (λ context. context .perfectBit) (flags .perfect) place ws
-  forward : BitsMatch (λ context. context .forward) (flags .forward) place ws
-  withN : BitsMatch (λ context. context .withN) (flags .withN) place ws
-  incremental : BitsMatch (λ context. context .incremental) (flags .incremental) place ws
+  perfect : BitsAre (λ w. w .context .perfectBit) (flags .perfect) place ws
+  forward : BitsAre (λ w. w .context .forward) (flags .forward) place ws
+  withN : BitsAre (λ w. w .context .withN) (flags .withN) place ws
+  incremental : BitsAre (λ w. w .context .incremental) (flags .incremental) place ws
 
 -- ---- The reads of a group, and of all
 
@@ -137,10 +95,10 @@ group-reads bases flags place previous (w ∷ ws) rest f t =
       readLength = w .context .readLength;
       referenceBases = sym (t .0) i;
       previousPosition = sym (t .1) i;
-      perfectBit = bits-here (λ c. c .perfectBit) (flags .perfect) place w ws (f .perfect) i;
-      forward = bits-here (λ c. c .forward) (flags .forward) place w ws (f .forward) i;
-      withN = bits-here (λ c. c .withN) (flags .withN) place w ws (f .withN) i;
-      incremental = bits-here (λ c. c .incremental) (flags .incremental) place w ws (f .incremental) i;
+      perfectBit = f .perfect .0 i;
+      forward = f .forward .0 i;
+      withN = f .withN .0 i;
+      incremental = f .incremental .0 i;
     } in
     ap (λ (c : ReadContext).
     record { context = c; piece = pieceOf w }
@@ -148,10 +106,10 @@ group-reads bases flags place previous (w ∷ ws) rest f t =
     ∙ ap (λ (more : List Read). asRead w ∷ more)
     (group-reads bases flags (suc place) (positionAfter (w .context) (w .stored .fields)) ws rest
     (record {
-      perfect = bits-next (λ c. c .perfectBit) (flags .perfect) place w ws (f .perfect);
-      forward = bits-next (λ c. c .forward) (flags .forward) place w ws (f .forward);
-      withN = bits-next (λ c. c .withN) (flags .withN) place w ws (f .withN);
-      incremental = bits-next (λ c. c .incremental) (flags .incremental) place w ws (f .incremental);
+      perfect = f .perfect .1;
+      forward = f .forward .1;
+      withN = f .withN .1;
+      incremental = f .incremental .1;
     }) (t .2))
 
 map-append : {A B : Type 0} (f : A → B) (xs ys : List A) → map f (xs ++ ys) ≡ map f xs ++ map f ys
@@ -166,10 +124,10 @@ groups-reads bases previous (ws ∷ groups) small t =
     let rest : List Slot = slots (map (map lengthOf) groups) (map writtenGroup groups) in
     group-reads bases (writtenGroup ws .flags) 0 previous ws rest
     (record {
-      perfect = bits-of (λ c. c .perfectBit) ws (small .0);
-      forward = bits-of (λ c. c .forward) ws (small .0);
-      withN = bits-of (λ c. c .withN) ws (small .0);
-      incremental = bits-of (λ c. c .incremental) ws (small .0);
+      perfect = flag-bits (λ w. w .context .perfectBit) ws (small .0);
+      forward = flag-bits (λ w. w .context .forward) ws (small .0);
+      withN = flag-bits (λ w. w .context .withN) ws (small .0);
+      incremental = flag-bits (λ w. w .context .incremental) ws (small .0);
     }) (threads-left bases previous ws (flatten groups) t)
     ∙ ap (λ (more : List Read). map asRead ws ++ more)
     (groups-reads bases (threadEnd previous ws) groups (small .1) (threads-right bases previous ws (flatten groups) t))
@@ -179,13 +137,14 @@ groups-meet : (groups : List (List Written)) → GroupsMeet (map (map lengthOf) 
 unfolding writtenNSection writtenGroup groupBitStray pieceOf
 groups-meet [] = tt
 groups-meet (ws ∷ groups) =
-    let stray : (test : ReadContext → Bool) → byteBitStray (length (map lengthOf ws)) (bitsOf test ws) ≡ false
-    = λ test. ap (λ (n : ℕ). byteBitStray n (bitsOf test ws)) (length-map ws lengthOf) ∙ bits-clear test ws in (
+    let stray : (test : Written → Bool) → byteBitStray (length (map lengthOf ws)) (flagByte test ws) ≡ false
+    = λ test. ap (λ (n : ℕ). byteBitStray n (flagByte test ws)) (length-map ws lengthOf) ∙ flag-clear test ws in (
       record {
         reads = length-map ws pieceOf ∙ sym (length-map ws lengthOf);
         noStrayBit =
-            neither-or _ _ (stray (λ c. c .perfectBit))
-            (neither-or _ _ (stray (λ c. c .forward)) (neither-or _ _ (stray (λ c. c .withN)) (stray (λ c. c .incremental))));
+            neither-or _ _ (stray (λ w. w .context .perfectBit))
+            (neither-or _ _ (stray (λ w. w .context .forward))
+            (neither-or _ _ (stray (λ w. w .context .withN)) (stray (λ w. w .context .incremental))));
         withN = refl;
       },
       groups-meet groups,

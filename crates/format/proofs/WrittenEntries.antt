@@ -10,10 +10,10 @@ use lib.Dec.{eqb}
 use borrow.Author.Tests.{eqb-true, ne-eqb}
 use Rattle.base.specs.Lists.{build, any, member, indexOf, placesFrom, All}
 use Rattle.base.proofs.ListLaws.{by-order, by-test, build-cong, all-append, all-build}
-use Rattle.base.proofs.PlacesLaws.{Rise, rise-weaken}
+use Rattle.base.proofs.PlacesWhereLaws.{Rise, rise-weaken}
 use Rattle.dna.specs.Record.{Entry, EntryFits}
-use Rattle.dna.proofs.OffsetLaws.{Steps}
-use Rattle.format.specs.FixedRule.{Gap, fillerCount, gapEntries, entriesOfGaps, gapsTo}
+use Rattle.dna.specs.Rules.{Steps}
+use Rattle.format.specs.RuleEntries.{Gap, fillerCount, gapEntries, entriesOfGaps, gapsTo}
 
 -- ---- What stands at a letter
 

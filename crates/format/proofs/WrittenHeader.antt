@@ -12,21 +12,16 @@ use Rattle.base.specs.Groups.{groupCount}
 use Rattle.base.specs.Numbers.{leBytes, nonNegative}
 use Rattle.base.specs.Lists.{build}
 use Rattle.base.proofs.ListLaws.{by-test, below-nil}
-use Rattle.base.proofs.PlaceLaws.{at-self, at-left, at-right, at-part, at-to}
+use Rattle.base.proofs.AtLaws.{at-self, at-left, at-right, at-part, at-to}
 use Rattle.base.proofs.Tests.{or-neither}
 use Rattle.dna.specs.Sizes.{same, inByte, inWords, storedBytes, lengthInvalid}
 use Rattle.dna.proofs.SizeLaws.{sizeSection-bytes}
 use Rattle.dna.proofs.SizeBytesLaws.{length-varint16, storedTotal, length-sizeSection}
 use Rattle.format.specs.Header.{Header, headerOf}
-use Rattle.format.specs.Sections.{sectionLengths, sectionStart, sectionLength, sectionOf, blockLength}
-use Rattle.format.specs.FixedRule.{
-  storedFrom,
-  allEqual,
-  writtenSizes,
-  int32Bytes,
-  headerBytes,
-  writtenHeader,
-}
+use Rattle.format.specs.Sections.{sectionLengths, sectionStart, sectionLength, sectionOf}
+use Rattle.format.specs.Sections.{blockLength}
+use Rattle.format.specs.Header.{int32Bytes, headerBytes}
+use Rattle.format.specs.RuleBlock.{storedFrom, allEqual, writtenSizes, writtenHeader}
 use Rattle.format.proofs.HeaderWritten.{HeaderFits, headerOf-headerBytes}
 use Rattle.format.proofs.WrittenSizes.{fit-from, length-storedFrom}
 

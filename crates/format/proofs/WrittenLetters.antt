@@ -10,27 +10,19 @@ use lib.Dec.{leb, eqb}
 use borrow.Author.Tests.{leb-true, eqb-true, lt-ltb, le-ltb}
 use Rattle.base.specs.Lists.{part, member, placesFrom, placesWhere}
 use Rattle.base.proofs.ListLaws.{by-order, by-test, length-build, getD-build}
-use Rattle.base.proofs.PlacesLaws.{places-rise, member-places, places-steps}
-use Rattle.base.proofs.ScanLaws.{cond-yes, cond-no}
+use Rattle.base.proofs.PlacesWhereLaws.{places-rise, member-places, places-steps}
+use Rattle.base.proofs.AnswerLaws.{cond-yes, cond-no}
 use Rattle.base.proofs.Tests.{and-both, and-first, not-false, false-not}
 use Rattle.dna.specs.Reference.{strandBase, stretchIndex, letterOfCode}
 use Rattle.dna.specs.Record.{ReadContext, Entry, RecordFields, StoredRecord}
-use Rattle.dna.specs.Alignment.{
-  isAligned,
-  fieldOf,
-  entriesOf,
-  leftOf,
-  rightOf,
-  alignedLength,
-  position,
-  leftmost,
-  leftmostOf,
-  referenceIndex,
-  entryPlaces,
-  nPositions,
-}
-use Rattle.dna.specs.Letters.{alignedCause, fieldsCause, causeAt, packedCodes, codeOf, recordLetters}
-use Rattle.format.specs.FixedRule.{Candidate, nOffsetsOf, differsAt, gapsOf, padded, withoutN, alignedCount, expectedAt, candidateGaps, candidateEntries, clippedCodes, stepFits, fieldFor, alignedFields}
+use Rattle.dna.specs.Alignment.{isAligned, fieldOf, entriesOf, leftOf, rightOf, alignedLength}
+use Rattle.dna.specs.Alignment.{position, leftmost, referenceIndex, entryPlaces, nPositions}
+use Rattle.dna.specs.Letters.{alignedCause, fieldsCause, causeAt, packedCodes, codeOf}
+use Rattle.dna.specs.Letters.{recordLetters}
+use Rattle.format.specs.RuleEntries.{differsAt, gapsOf}
+use Rattle.format.specs.RuleRecord.{Candidate, nOffsetsOf, padded, withoutN, alignedCount}
+use Rattle.format.specs.RuleRecord.{expectedAt, candidateGaps, candidateEntries, clippedCodes}
+use Rattle.format.specs.RuleRecord.{storedPosition, stepFits, fieldFor, alignedFields}
 use Rattle.format.proofs.WrittenEntries.{lookup, lookup-places, lookup-entries}
 
 -- ---- N
@@ -56,7 +48,7 @@ pub record AtPlace (reference : List ℕ) (previous : ℕ) (codes : List ℕ) (c
   pub entries : entriesOf fields ≡ candidateEntries reference codes candidate
   pub left : leftOf fields ≡ candidate .left
   pub right : rightOf fields ≡ candidate .right
-  pub field : fieldOf fields ≡ fieldFor previous candidate
+  pub field : fieldOf fields ≡ fieldFor previous (storedPosition codes candidate)
   pub packed : 1 ≤ candidate .left + candidate .right → packedCodes fields ≡ clippedCodes codes candidate
 
 no-entries : (entries : List Entry) → length entries ≡ 0 → entries ≡ []
@@ -103,22 +95,23 @@ pub record Before (bases previous : ℕ) (codes : List ℕ) (candidate : Candida
   pub referenceBases : context .referenceBases ≡ bases
   pub previousPosition : context .previousPosition ≡ previous
   pub forward : context .forward ≡ eqb (candidate .strand) 1
-  pub incremental : context .incremental ≡ stepFits previous candidate
+  pub incremental : context .incremental ≡ stepFits previous (storedPosition codes candidate)
 
 module _ (bases : ℕ) (reference : List ℕ) (previous : ℕ) (codes : List ℕ) (candidate : Candidate) (fields : RecordFields)
     (context : ReadContext) (place : AtPlace reference previous codes candidate fields)
     (before : Before bases previous codes candidate context)
     (clips : candidate .left + candidate .right < length codes) where
-  -- The position is the candidate's: its field is the step, or itself.
-  pub position-is : position context fields ≡ candidate .position
+  -- The position is the one that is stored: its field is the step, or itself.
+  pub position-is : position context fields ≡ storedPosition codes candidate
   unfolding position fieldFor stepFits
   position-is =
-      let steps : Bool = stepFits previous candidate in
+      let stored : ℕ = storedPosition codes candidate in
+      let steps : Bool = stepFits previous stored in
       ap₂ (λ (b : Bool) (f : ℕ). cond b (context .previousPosition) 0 + f) (before .incremental) (place .field)
       ∙ by-test steps
       (λ t.
-      let parts = and-both (leb previous (candidate .position)) _ t in
-      let up : previous ≤ candidate .position = leb-true previous (candidate .position) (parts .0) in
+      let parts = and-both (leb previous stored) _ t in
+      let up : previous ≤ stored = leb-true previous stored (parts .0) in
       rw t (omega (arith, before .previousPosition)))
       (λ t. rw t (omega arith))
 
@@ -127,14 +120,14 @@ module _ (bases : ℕ) (reference : List ℕ) (previous : ℕ) (codes : List ℕ
   aligned-is =
       ap₂ (λ (n m : ℕ). n - m) (before .readLength) (ap₂ (λ (l r : ℕ). l + r) (place .left) (place .right))
 
-  leftmost-is : leftmostOf context fields ≡ candidate .position
-  unfolding leftmostOf leftmost
+  pub leftmost-is : leftmost context fields ≡ candidate .position
+  unfolding leftmost storedPosition
   leftmost-is = position-is
 
   expected-is : (k : ℕ) → strandBase reference (context .forward) (referenceIndex context fields k) ≡ expectedAt reference codes candidate k
   unfolding expectedAt referenceIndex
   expected-is k =
-      ap (λ (f : Bool). strandBase reference f (stretchIndex f (leftmostOf context fields) (alignedLength context fields) k)) (before .forward)
+      ap (λ (f : Bool). strandBase reference f (stretchIndex f (leftmost context fields) (alignedLength context fields) k)) (before .forward)
       ∙ ap₂ (λ (p n : ℕ). strandBase reference (eqb (candidate .strand) 1) (stretchIndex (eqb (candidate .strand) 1) p n k)) leftmost-is aligned-is
 
   -- The read's codes over the aligned part.

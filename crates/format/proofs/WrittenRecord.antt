@@ -4,41 +4,42 @@ use Prim.Native.Nat.{ℕ, zero, suc, _+_, _-_, _*_, _^_, _≤_, _<_}
 use native.Mathlib.Omega.{arith}
 use mathlib.Core.Bool.{Bool, true, false, not, _||_}
 use mathlib.Core.List.{List, [], _∷_, _++_, map}
-use lib.ListN.{length, getD, take, drop, replicate, length-append, length-map, length-replicate, getD-replicate, length-take, length-drop, List·getD-map, List·getD-eq-default}
+use lib.ListN.{length, getD, take, drop, replicate, length-append, length-map, length-replicate}
+use lib.ListN.{getD-replicate, length-take, length-drop, List·getD-map, List·getD-eq-default}
 use lib.Seq.{length-take-le, getD-take, getD-drop}
 use lib.Dec.{leb, ltb, eqb}
 use borrow.Author.Tests.{ltb-true, ltb-false, leb-true, eqb-false}
-use Rattle.base.specs.Lists.{build, part, any, member, keep, placesWhere, placesFrom, stepsFrom, Below, All}
+use Rattle.base.specs.Lists.{build, part, any, member, keep, placesWhere, placesFrom, stepsFrom}
+use Rattle.base.specs.Lists.{Below, All}
 use Rattle.base.specs.Packed.{packedLength}
 use Rattle.base.specs.Faults.{NoneFits}
-use Rattle.base.proofs.ListLaws.{by-order, by-test, below-at, below-nil, below-cons, below-append, below-take, below-drop}
+use Rattle.base.proofs.ListLaws.{by-order, by-test, below-at, below-nil, below-cons, below-append}
+use Rattle.base.proofs.ListLaws.{below-take, below-drop}
 use Rattle.base.proofs.BitLaws.{any-build, build-any}
-use Rattle.base.proofs.FaultLaws.{any-none}
+use Rattle.base.proofs.Tests.{any-none}
 use Rattle.base.proofs.PackedLaws.{packedLength-holds}
-use Rattle.base.proofs.PlacesLaws.{Rise, rise-weaken, places-rise, any-places, places-any}
+use Rattle.base.proofs.PlacesWhereLaws.{Rise, rise-weaken, places-rise, any-places, places-any}
 use Rattle.base.proofs.StepsLaws.{length-stepsFrom}
 use Rattle.base.proofs.Tests.{absurd-test, and-both, neither-or, not-true}
 use Rattle.dna.specs.Reference.{letterOfCode}
-use Rattle.dna.specs.Record.{ReadContext, Entry, EntryFits, PackedFits, RecordFields, fieldWidth, hasNList, FieldsFit, NListFits, RecordFits}
-use Rattle.dna.specs.Alignment.{isAligned, entriesOf, alignedLength, leftmost, leftmostOf, nPositions, position}
+use Rattle.dna.specs.Record.{ReadContext, Entry, EntryFits, PackedFits, RecordFields, fieldWidth}
+use Rattle.dna.specs.Record.{hasNList, FieldsFit, NListFits, RecordFits}
+use Rattle.dna.specs.Alignment.{isAligned, entriesOf, alignedLength, leftmost, nPositions, position}
 use Rattle.dna.specs.RecordFaults.{raw4Codes, paddingOf, recordFaults}
 use Rattle.dna.specs.Letters.{fieldsCause, causeAt, packedCodes, codeOf, recordLetters}
-use Rattle.dna.proofs.OffsetLaws.{Steps}
 use Rattle.dna.proofs.ReferenceLaws.{strandBase-below}
-use Rattle.dna.proofs.RulesMean.{CountHolds, ClipsHold, Raw4BitHolds, NListHolds, rules-mean}
-use Rattle.format.specs.FixedRule.{Candidate, nOffsetsOf, differsAt, gapsOf, padded, withoutN, alignedCount, expectedAt, candidateGaps, candidateEntries, clippedCodes, placeUsed, stepFits, fieldFor, alignedFields, isPerfect, chooseRaw4, chooseAligned, chooseRaw, choiceFor, Written, writtenAs, written}
+use Rattle.dna.specs.Rules.{Steps, CountHolds, ClipsHold, Raw4BitHolds, NListHolds}
+use Rattle.dna.proofs.RulesMean.{rules-mean}
+use Rattle.format.specs.RuleEntries.{differsAt, gapsOf}
+use Rattle.format.specs.RuleRecord.{Candidate, nOffsetsOf, padded, withoutN, alignedCount}
+use Rattle.format.specs.RuleRecord.{expectedAt, candidateGaps, candidateEntries, clippedCodes}
+use Rattle.format.specs.RuleRecord.{placeUsed, storedPosition, stepFits, fieldFor}
+use Rattle.format.specs.RuleRecord.{alignedFields, isPerfect, chooseRaw4, chooseAligned}
+use Rattle.format.specs.RuleRecord.{chooseRaw, choiceFor, Written, writtenAs, written}
 use Rattle.format.proofs.WrittenEntries.{steps-entries, entries-fit}
-use Rattle.format.proofs.WrittenLetters.{
-  AtPlace,
-  at-place,
-  Before,
-  position-is,
-  aligned-is,
-  fields-letter,
-  letters-by-code,
-  with-n-list,
-  without-kept,
-}
+use Rattle.format.proofs.WrittenLetters.{AtPlace, at-place, Before, leftmost-is, aligned-is}
+use Rattle.format.proofs.WrittenLetters.{fields-letter, letters-by-code, with-n-list}
+use Rattle.format.proofs.WrittenLetters.{without-kept}
 
 -- ---- The N list
 
@@ -300,11 +301,11 @@ module _ (bases : ℕ) (reference : List ℕ) (previous : ℕ) (codes : List ℕ
       without-below (front ++ back) (below-append front back (below-take codes (candidate .left) below) (below-drop codes (candidate .left + alignedCount codes candidate) below))
 
   -- The position's field has the width that it is stored in.
-  field-fits : CandidateFits candidate → (context : ReadContext) → context .incremental ≡ stepFits previous candidate
-      → fieldFor previous candidate < 256 ^ fieldWidth context
-  unfolding fieldFor stepFits fieldWidth
+  field-fits : CandidateFits candidate → (context : ReadContext) → context .incremental ≡ stepFits previous (storedPosition codes candidate)
+      → fieldFor previous (storedPosition codes candidate) < 256 ^ fieldWidth context
+  unfolding fieldFor stepFits storedPosition fieldWidth
   field-fits fits context e =
-      by-test (stepFits previous candidate)
+      by-test (stepFits previous (storedPosition codes candidate))
       (λ t.
       let step = and-both (leb previous (candidate .position)) _ t in
       let small = leb-true (candidate .position - previous) _ (step .1) in
@@ -321,7 +322,7 @@ module _ (bases : ℕ) (reference : List ℕ) (previous : ℕ) (codes : List ℕ
     raw4Bit : Raw4BitHolds context fields
     has : hasNList context fields ≡ context .withN
 
-  kind-holds : CandidateFits candidate → (context : ReadContext) → context .incremental ≡ stepFits previous candidate
+  kind-holds : CandidateFits candidate → (context : ReadContext) → context .incremental ≡ stepFits previous (storedPosition codes candidate)
       → context .readLength ≡ length codes → context .perfectBit ≡ isPerfect (alignedFields reference previous codes candidate)
       → KindHolds context (alignedFields reference previous codes candidate)
   unfolding alignedFields isPerfect raw4Codes paddingOf hasNList padded
@@ -329,7 +330,7 @@ module _ (bases : ℕ) (reference : List ℕ) (previous : ℕ) (codes : List ℕ
       let ends : ℕ = candidate .left + candidate .right in
       let entries : List Entry = candidateEntries reference codes candidate in
       let field = field-fits fits context step in
-      let few : length entries < 32 = omega (arith, u .few) in
+      let few : length entries ≤ 31 = omega (arith, u .few) in
       by-test (eqb ends 0)
       (λ t.
       by-test (eqb (length entries) 0)
@@ -382,7 +383,7 @@ module _ (bases : ℕ) (reference : List ℕ) (previous : ℕ) (codes : List ℕ
 
   aligned-meets : CandidateFits candidate → length (nOffsetsOf codes) ≤ 31
       → Meets reference codes (writtenAs chooseAligned bases reference previous codes candidate)
-  unfolding writtenAs leftmostOf leftmost
+  unfolding writtenAs
   aligned-meets fits few =
       let w : Written = writtenAs chooseAligned bases reference previous codes candidate in
       let fields : RecordFields = alignedFields reference previous codes candidate in
@@ -390,8 +391,8 @@ module _ (bases : ℕ) (reference : List ℕ) (previous : ℕ) (codes : List ℕ
       let before : Before bases previous codes candidate (w .context) =
       record { readLength = refl; referenceBases = refl; previousPosition = refl; forward = refl; incremental = refl } in
       let kind : KindHolds (w .context) fields = kind-holds fits (w .context) refl refl refl in
-      let at : position (w .context) fields ≡ candidate .position =
-      position-is bases reference previous codes candidate fields (w .context) place before (u .clips) in
+      let at : leftmost (w .context) fields ≡ candidate .position =
+      leftmost-is bases reference previous codes candidate fields (w .context) place before (u .clips) in
       let many : alignedLength (w .context) fields ≡ alignedCount codes candidate =
       aligned-is bases reference previous codes candidate fields (w .context) place before (u .clips) in
       record {

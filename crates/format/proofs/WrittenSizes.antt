@@ -11,8 +11,9 @@ use borrow.Author.Tests.{ltb-true, eqb-true}
 use Rattle.base.specs.Lists.{any, All}
 use Rattle.base.proofs.ListLaws.{by-test}
 use Rattle.base.proofs.Tests.{and-both, or-neither, not-true, not-false}
-use Rattle.dna.specs.Sizes.{isSame, sizeSectionBytes, lengthsFrom, lengthInvalid, StoredFits, firstIsSame, SizesStored}
-use Rattle.format.specs.FixedRule.{storedFrom, allEqual}
+use Rattle.dna.specs.Sizes.{isSame, sizeSectionBytes, lengthsFrom, lengthInvalid, StoredFits}
+use Rattle.dna.specs.Sizes.{firstIsSame, SizesStored}
+use Rattle.format.specs.RuleBlock.{storedFrom, allEqual}
 
 pub length-storedFrom : (has : Bool) (previous : ℕ) (lengths : List ℕ) → length (storedFrom has previous lengths) ≡ length lengths
 unfolding storedFrom

@@ -14,31 +14,27 @@ use Rattle.base.specs.Numbers.{nonNegative}
 use Rattle.base.specs.Faults.{NoneFits}
 use Rattle.base.proofs.ListLaws.{by-test, below-nil, below-append}
 use Rattle.base.proofs.NumberLaws.{leBytes-bytes}
-use Rattle.base.proofs.ScanLaws.{cond-yes, cond-no}
+use Rattle.base.proofs.AnswerLaws.{cond-yes, cond-no}
 use Rattle.base.proofs.Tests.{or-neither, neither-or, true-not}
 use Rattle.dna.specs.Sizes.{lengthInvalid, sizeSectionBytes, SizesStored}
 use Rattle.dna.specs.Division.{Division, Divides, divisionBytes}
 use Rattle.format.specs.Header.{Header, headerOf, flagSet, readCount}
 use Rattle.format.specs.Sections.{sectionOf, blockLength}
-use Rattle.format.specs.HeaderFaults.{
-  signedBelow,
-  signedOutside,
-  headerTruncated,
-  magicWrong,
-  versionUnsupported,
-  headerLengthTooSmall,
-  flagUnsupported,
-  readCountOutOfRange,
-  sectionsTruncated,
-  headerFaults,
-}
+use Rattle.format.specs.HeaderFaults.{signedBelow, signedOutside, headerTruncated, magicWrong}
+use Rattle.format.specs.HeaderFaults.{versionUnsupported, headerLengthTooSmall}
+use Rattle.format.specs.HeaderFaults.{flagUnsupported, readCountOutOfRange, sectionsTruncated}
+use Rattle.format.specs.HeaderFaults.{tableFaults, headerFaults}
 use Rattle.format.specs.Lengths.{LengthsBy, dnaSizeWrong, nSectionWrong, lengthFaults}
 use Rattle.format.specs.WellFormed.{BlockDivision, DividesBlock, WellFormed}
-use Rattle.format.specs.FixedRule.{Candidate, writtenDivision, writtenNSection, storedFrom, allEqual, writtenSizes, int32Bytes, headerBytes, writtenHeader, writtenBlock, ruleBlock}
+use Rattle.format.specs.Header.{int32Bytes, headerBytes}
+use Rattle.format.specs.RuleRecord.{Candidate}
+use Rattle.format.specs.RuleBlock.{writtenDivision, writtenNSection, storedFrom, allEqual}
+use Rattle.format.specs.RuleBlock.{writtenSizes, writtenHeader, writtenBlock, ruleBlock}
 use Rattle.format.proofs.WrittenSizes.{sizes-written, equal-lengths}
 use Rattle.format.proofs.WrittenDivision.{written-divides}
 use Rattle.format.proofs.WrittenBlock.{WrittenReads, SectionsSmall, sections-small, all-meet}
-use Rattle.format.proofs.WrittenHeader.{sizes-short, sizes-bytes, blockFrom, BlockParts, block-parts}
+use Rattle.format.proofs.WrittenHeader.{sizes-short, sizes-bytes, blockFrom, BlockParts}
+use Rattle.format.proofs.WrittenHeader.{block-parts}
 
 -- ---- Lengths
 
@@ -125,7 +121,7 @@ header-bytes header =
 
 no-header-fault : (id time : ℕ) (dna sizes ns lengths : List ℕ) → length lengths ≤ 50000 → BlockParts id time dna sizes ns lengths
     → NoneFits (headerFaults (blockFrom id time dna sizes ns lengths))
-unfolding headerFaults any headerTruncated magicWrong versionUnsupported headerLengthTooSmall flagUnsupported readCountOutOfRange sectionsTruncated signedBelow signedOutside writtenHeader
+unfolding headerFaults tableFaults any headerTruncated magicWrong versionUnsupported headerLengthTooSmall flagUnsupported readCountOutOfRange sectionsTruncated signedBelow signedOutside writtenHeader
 no-header-fault id time dna sizes ns lengths few p =
     let block : List ℕ = blockFrom id time dna sizes ns lengths in
     let head = p .header in

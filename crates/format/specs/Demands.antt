@@ -1,61 +1,48 @@
 -- The demands (01, What a reviewer may lean on), as types over the definitions.
--- 1: every call ends and harms nothing; a fault is refused by its number and read index, and every lent buffer then
--- holds what it held before. (That a call ends and harms nothing the prover shows of each function; which number it
--- is, and in which order, is the call's answer.)
--- 2: a well-formed block gives exactly the letters, lengths and counts defined, and no other block is accepted; every
--- list of reads within the limits is written by the fixed rule and reads back.
+-- 1: every call ends and harms nothing; a fault is refused by its number and read index, the first
+-- fault deciding, and every lent buffer then holds what it held before. (That a call ends and
+-- harms nothing the prover shows of each function.)
+-- 2: a well-formed block gives exactly the letters, lengths and counts defined, and no other block
+-- is accepted; every list of reads within the limits is written by the fixed rule and reads back.
 -- 3: one claim over every reference, file and list of blocks.
 -- The proofs stand in proofs/. Each premise is 01's, or says what a lent type can hold.
-use Prim.Native.Nat.{ℕ, _≤_, _<_, _^_}
+use Prim.Native.Nat.{ℕ, _%_, _≤_, _<_, _^_}
 use mathlib.Core.Path.{_≡_}
 use mathlib.Core.Logic.{_↔_}
 use mathlib.Core.Bool.{Bool, true, false, _&&_, _||_}
-use mathlib.Core.List.{List, _++_, map, flatten}
+use mathlib.Core.List.{List, [], _∷_, _++_, map, flatMap, flatten}
 use lib.ListN.{length, take}
 use lib.Dec.{leb, eqb}
-use Rattle.base.specs.Faults.{NoneFits}
-use Rattle.base.specs.Scan.{firstNumber}
+use Rattle.base.specs.Faults.{Fault, fault, NoneFits}
+use Rattle.base.specs.Answer.{firstNumber}
 use Rattle.base.specs.Paste.{pasted}
 use Rattle.base.specs.Lists.{member, total, placesFrom, All, Begins, Below, AllBytes}
 use Rattle.dna.specs.Reference.{alphabet, referenceSizeWrong, ReferenceFits}
 use Rattle.dna.specs.Sizes.{lengthInvalid}
-use Rattle.dna.specs.Counts.{Counted, zeroCounts, sumCounts, recordCounts}
-use Rattle.dna.specs.Division.{Division, SameDivision, Divides, divisionBytes, readEnds}
+use Rattle.dna.specs.Counts.{Counted, zeroCounts, recordCounts}
+use Rattle.dna.specs.Division.{Division, SameDivision, Divides, divisionBytes, readsOf, readEnds}
+use Rattle.dna.specs.Rules.{totals, exact}
+use Rattle.dna.specs.FirstFault.{DnaRefused}
 use Rattle.format.specs.Header.{headerOf, readCount}
 use Rattle.format.specs.Sections.{dnaNumber, nNumber, sectionOf}
-use Rattle.format.specs.HeaderFaults.{maxReads, headerFaults}
-use Rattle.format.specs.Lengths.{LengthsAre, LengthsInvalid, lengthFaults}
+use Rattle.format.specs.HeaderFaults.{maxReads, headerTruncated, magicWrong}
+use Rattle.format.specs.HeaderFaults.{versionUnsupported, headerLengthTooSmall}
+use Rattle.format.specs.HeaderFaults.{flagUnsupported, readCountOutOfRange, sectionsTruncated}
+use Rattle.format.specs.HeaderFaults.{headerFaults}
+use Rattle.format.specs.Lengths.{LengthsAre, LengthsInvalid, dnaSizeWrong, nSectionWrong}
+use Rattle.format.specs.Lengths.{lengthFaults}
 use Rattle.format.specs.WellFormed.{BlockDivision, DividesBlock, WellFormed}
-use Rattle.format.specs.Joined.{
-  Joined,
-  AllWellFormed,
-  CutAt,
-  DivideBlocks,
-  blockReads,
-  blockCounts,
-  fileReads,
-  fileCounts,
-}
-use Rattle.format.specs.Outcome.{Outcome, refusal, acceptedBlock, acceptedFile, modulo64}
-use Rattle.format.specs.BlockAnswer.{
-  accepts,
-  blockAnswer,
-  validatedBlock,
-  decoded,
-  decodedLetters,
-  decodedEnds,
-}
+use Rattle.format.specs.Joined.{Joined, AllWellFormed, CutAt, DivideBlocks, blockReads}
+use Rattle.format.specs.Joined.{fileReads}
+use Rattle.format.specs.Outcome.{Outcome, refusal, acceptedBlock, acceptedFile}
+use Rattle.format.specs.BlockAnswer.{validatedBlock, decoded, decodedLetters, decodedEnds}
 use Rattle.format.specs.FileAnswer.{validated}
-use Rattle.format.specs.FixedRule.{
-  Candidate,
-  codeOfLetter,
-  writtenFrom,
-  writtenDivision,
-  writtenNSection,
-  writtenSizes,
-  writtenHeader,
-}
-use Rattle.format.specs.EncodeAnswer.{EncodeInput, candidatesOf, blockOf, encoded, encodedBuffer}
+use Rattle.format.specs.RuleRecord.{Candidate}
+use Rattle.format.specs.RuleBlock.{codeOfLetter, writtenFrom, writtenDivision}
+use Rattle.format.specs.RuleBlock.{writtenNSection, writtenSizes, writtenHeader}
+use Rattle.format.specs.EncodeAnswer.{EncodeInput, candidatesOf, blockOf, readCountTooLarge}
+use Rattle.format.specs.EncodeAnswer.{candidateCountWrong, readEndsInvalid, letterInvalid}
+use Rattle.format.specs.EncodeAnswer.{blockCapacityTooSmall, encoded, encodedBuffer}
 
 -- ---- Demand 1: a refused call changes nothing and counts nothing
 
@@ -67,8 +54,8 @@ upTo last number = leb 1 number && leb number last
 unfoldable pub writersOwn : (number : ℕ) → Bool
 writersOwn number = eqb number 1 || (leb 30 number && leb number 34)
 
--- A refusal: its number is one of the call's own, every count in it is 0, and its read index is 0 or below the
--- number of reads.
+-- A refusal: its number is one of the call's own, every count in it is 0, and its read index is 0
+-- or below the number of reads.
 pub record Refusal (own : ℕ → Bool) (reads : ℕ) (outcome : Outcome) : Type 0 where
   pub own-number : own (outcome .number) ≡ true
   pub no-blocks : outcome .blocks ≡ 0
@@ -76,8 +63,8 @@ pub record Refusal (own : ℕ → Bool) (reads : ℕ) (outcome : Outcome) : Type
   pub no-counts : outcome .counts ≡ zeroCounts
   pub read-index : 0 < outcome .read → outcome .read < reads
 
--- A refused file: the blocks before the one that is refused, and what begins with it. (Where the reference earns 1
--- there are none before it.)
+-- A refused file: the blocks before the one that is refused, and what begins with it. (Where the
+-- reference earns 1 there are none before it.)
 pub record FileRefusal (bases : ℕ) (reference file : List ℕ) (outcome : Outcome) : Type 0 where
   pub before : List (List ℕ)
   pub rest : List ℕ
@@ -88,35 +75,84 @@ pub record FileRefusal (bases : ℕ) (reference file : List ℕ) (outcome : Outc
   pub nothing : Refusal (upTo 21) (readCount (headerOf rest)) outcome
 
 -- The lent buffers have room for the letters and ends of a division.
-pub record Room (reference : List ℕ) (bases letterRoom endRoom : ℕ) (divided : BlockDivision) : Type 0 where
+pub record Room (reference : List ℕ) (bases letterRoom endRoom : ℕ) (divided : BlockDivision)
+    : Type 0 where
   pub letters : length (flatten (blockReads reference bases divided)) ≤ letterRoom
   pub ends : length (divided .lengths) ≤ endRoom
 
--- When each number outside the DNA section is given, in the definitions' own terms (01: given exactly when).
+-- 01's table, each number beside its test: 2 to 8; 10 and 11 by length; the writer's.
+abbrev pub headerRows : (input : List ℕ) → List Fault
+headerRows input =
+    fault 2 (headerTruncated input)
+    ∷ fault 3 (magicWrong input)
+    ∷ fault 4 (versionUnsupported input)
+    ∷ fault 5 (headerLengthTooSmall input)
+    ∷ fault 6 (flagUnsupported input)
+    ∷ fault 7 (readCountOutOfRange input)
+    ∷ fault 8 (sectionsTruncated input)
+    ∷ []
+
+abbrev pub lengthRows : (input lengths : List ℕ) → List Fault
+lengthRows input lengths =
+    fault 10 (dnaSizeWrong input lengths) ∷ fault 11 (nSectionWrong input) ∷ []
+
+abbrev pub writerRows : (bases : ℕ) (reference : List ℕ) (input : EncodeInput) (room : ℕ)
+    → List Fault
+writerRows bases reference input room =
+    fault 1 (referenceSizeWrong bases reference)
+    ∷ fault 30 (readCountTooLarge input)
+    ∷ fault 31 (candidateCountWrong input)
+    ∷ fault 32 (readEndsInvalid input)
+    ∷ fault 33 (letterInvalid input)
+    ∷ fault 34 (blockCapacityTooSmall bases reference input room)
+    ∷ []
+
+-- When each number of a block is given (01: given exactly when): the first that fits.
 pub record GivenExactly (bases : ℕ) (reference input : List ℕ) : Type 0 where
-  -- 1: the reference, before anything else.
-  pub of-reference : referenceSizeWrong bases reference ≡ true → validatedBlock bases reference input ≡ refusal 1 0 0
-  -- 2 to 8: the first fault of the header.
-  pub of-header : referenceSizeWrong bases reference ≡ false → 0 < firstNumber (headerFaults input)
-      → validatedBlock bases reference input ≡ refusal (firstNumber (headerFaults input)) 0 0
+  -- 2 to 8: the first of them that fits.
+  pub of-header : ReferenceFits bases reference → 0 < firstNumber (headerRows input)
+      → validatedBlock bases reference input ≡ refusal (firstNumber (headerRows input)) 0 0
   -- 9: no list is the lengths of the block's reads.
   pub of-lengths : ReferenceFits bases reference → NoneFits (headerFaults input)
       → (validatedBlock bases reference input ≡ refusal 9 0 0) ↔ LengthsInvalid input
   -- 10, 11 by length: the first of the two that fits.
-  pub of-sizes : (lengths : List ℕ) → ReferenceFits bases reference → NoneFits (headerFaults input) → LengthsAre input lengths
-      → 0 < firstNumber (lengthFaults input lengths)
-      → validatedBlock bases reference input ≡ refusal (firstNumber (lengthFaults input lengths)) 0 0
+  pub of-sizes : (lengths : List ℕ) → ReferenceFits bases reference → NoneFits (headerFaults input)
+      → LengthsAre input lengths → 0 < firstNumber (lengthRows input lengths)
+      → validatedBlock bases reference input
+      ≡ refusal (firstNumber (lengthRows input lengths)) 0 0
+  -- 11 to 20 in the DNA section: what stands before the read meets the rules, what begins there
+  -- does not, and the number is the first that fits.
+  pub of-dna : (lengths : List ℕ) (number read : ℕ) → ReferenceFits bases reference
+      → NoneFits (headerFaults input) → LengthsAre input lengths
+      → NoneFits (lengthFaults input lengths) → 0 < number → number ≤ 20
+      → (validatedBlock bases reference input ≡ refusal number 0 read)
+      ↔ DnaRefused bases lengths (sectionOf input nNumber) (sectionOf input dnaNumber) number read
   -- 21: a front of the DNA section, and not all of it, has a division that meets the rules.
-  pub of-left-over : (lengths : List ℕ) → ReferenceFits bases reference → NoneFits (headerFaults input) → LengthsAre input lengths
+  pub of-left-over : (lengths : List ℕ) → ReferenceFits bases reference
+      → NoneFits (headerFaults input) → LengthsAre input lengths
       → NoneFits (lengthFaults input lengths)
       → (validatedBlock bases reference input ≡ refusal 21 0 0)
       ↔ ((division : Division) × (size : ℕ) × (size < length (sectionOf input dnaNumber))
-      × Divides bases lengths (sectionOf input nNumber) (take size (sectionOf input dnaNumber)) division)
-  -- 22: the block is accepted by judging, but there is no room. Otherwise decoding answers as judging does.
-  pub of-room : (letters ends : List ℕ) (divided : BlockDivision) → blockAnswer bases reference input ≡ accepts divided
-      → (Room reference bases (length letters) (length ends) divided → ⊥) → decoded bases reference input letters ends ≡ refusal 22 0 0
+      × Divides bases lengths (sectionOf input nNumber) (take size (sectionOf input dnaNumber))
+      division)
+  -- Decoding answers every refusal of judging.
   pub of-decoding : (letters ends : List ℕ) → 0 < validatedBlock bases reference input .number
       → decoded bases reference input letters ends ≡ validatedBlock bases reference input
+
+-- When 1 is given, and the writer's numbers: by every call, the empty file included.
+pub record GivenFirst (bases : ℕ) (reference : List ℕ) : Type 0 where
+  pub decode : (input letters ends : List ℕ) → referenceSizeWrong bases reference ≡ true
+      → decoded bases reference input letters ends ≡ refusal 1 0 0
+  pub validateBlock : (input : List ℕ)
+      → (validatedBlock bases reference input ≡ refusal 1 0 0)
+      ↔ (referenceSizeWrong bases reference ≡ true)
+  pub validate : (file : List ℕ)
+      → (validated bases reference file ≡ refusal 1 0 0)
+      ↔ (referenceSizeWrong bases reference ≡ true)
+  -- The number is the first of the writer's that fits, or 0.
+  pub encode : (input : EncodeInput) (out : List ℕ)
+      → encoded bases reference input out .number
+      ≡ firstNumber (writerRows bases reference input (length out))
 
 -- Demand 1.
 pub record Demand1 : Type 0 where
@@ -128,12 +164,14 @@ pub record Demand1 : Type 0 where
       × (decodedLetters bases reference input letters ends ≡ letters)
       × (decodedEnds bases reference input letters ends ≡ ends)
   -- Judging a block.
-  pub validateBlock : (bases : ℕ) (reference input : List ℕ) → 0 < validatedBlock bases reference input .number
+  pub validateBlock : (bases : ℕ) (reference input : List ℕ)
+      → 0 < validatedBlock bases reference input .number
       → Refusal (upTo 21) (readCount (headerOf input)) (validatedBlock bases reference input)
       × (validatedBlock bases reference input .block ≡ 0)
-  -- Judging a file: it begins with well-formed blocks, as many as the block index says, and what follows them is
-  -- refused with that number and read index.
-  pub validate : (bases : ℕ) (reference file : List ℕ) → AllBytes file → 0 < validated bases reference file .number
+  -- Judging a file: it begins with well-formed blocks, as many as the block index says, and what
+  -- follows them is refused with that number and read index.
+  pub validate : (bases : ℕ) (reference file : List ℕ) → AllBytes file
+      → 0 < validated bases reference file .number
       → FileRefusal bases reference file (validated bases reference file)
   -- Encoding: the lent buffer holds what it held before, and both indices are 0.
   pub encode : (bases : ℕ) (reference : List ℕ) (input : EncodeInput) (out : List ℕ)
@@ -142,34 +180,59 @@ pub record Demand1 : Type 0 where
       × (encoded bases reference input out .block ≡ 0)
       × (encodedBuffer bases reference input out ≡ out)
   -- Each number is given exactly when 01 says.
-  pub given : (bases : ℕ) (reference input : List ℕ) → AllBytes input → GivenExactly bases reference input
+  pub given : (bases : ℕ) (reference input : List ℕ) → AllBytes input
+      → GivenExactly bases reference input
+  pub given-first : (bases : ℕ) (reference : List ℕ) → GivenFirst bases reference
+  -- 22: the input begins with a well-formed block, but there is no room for it.
+  pub of-room : (bases : ℕ) (reference block rest letters ends : List ℕ) (divided : BlockDivision)
+      → ReferenceFits bases reference → WellFormed bases block → DividesBlock bases block divided
+      → (Room reference bases (length letters) (length ends) divided → ⊥)
+      → decoded bases reference (block ++ rest) letters ends ≡ refusal 22 0 0
 
--- ---- Demand 2, reading: a well-formed block gives exactly what is defined, and no other is accepted
+-- ---- Counts, each by itself
+
+-- In a file, modulo 2 ^ 64.
+abbrev pub wrapped : (number : ℕ) → ℕ
+wrapped number = number % 18_446_744_073_709_551_616
+
+-- The counts of every read of a division of a block.
+abbrev pub readCounts : (bases : ℕ) (reference : List ℕ) (divided : BlockDivision) → List Counted
+readCounts bases reference divided =
+    map (λ read. recordCounts reference (read .context) (read .piece .stored))
+    (readsOf bases (divided .lengths) (divided .division))
+
+-- ---- Demand 2, reading: a well-formed block gives exactly what is defined, no other is accepted
 
 -- The input begins with a well-formed block, and there is room for it.
-pub record Readable (bases : ℕ) (reference input : List ℕ) (letterRoom endRoom : ℕ) : Type 0 where
+pub record Readable (bases : ℕ) (reference input : List ℕ) (letterRoom endRoom : ℕ)
+    : Type 0 where
   pub block : List ℕ
   pub rest : List ℕ
   pub begins : input ≡ block ++ rest
   pub wellFormed : WellFormed bases block
   pub room : Room reference bases letterRoom endRoom (wellFormed .divided)
 
--- What decoding gives by a division: its counts, its letters and its ends, and the buffers past them as before.
-pub record Decodes (bases : ℕ) (reference block input letters ends : List ℕ) (divided : BlockDivision) : Type 0 where
+-- What decoding gives by a division: its counts, its letters and its ends, and the buffers past
+-- them as before.
+pub record Decodes (bases : ℕ) (reference block input letters ends : List ℕ)
+    (divided : BlockDivision) : Type 0 where
   pub outcome : decoded bases reference input letters ends
-      ≡ acceptedBlock (length block) (blockCounts reference bases divided)
+      ≡ acceptedBlock (length block) (totals exact (readCounts bases reference divided))
   pub letters-are : decodedLetters bases reference input letters ends
       ≡ pasted letters 0 (flatten (blockReads reference bases divided))
-  pub ends-are : decodedEnds bases reference input letters ends ≡ pasted ends 0 (readEnds (divided .lengths))
+  pub ends-are : decodedEnds bases reference input letters ends
+      ≡ pasted ends 0 (readEnds (divided .lengths))
 
 pub record ReadsBlocks (bases : ℕ) (reference : List ℕ) : Type 0 where
   -- A block is accepted exactly if the input begins with a well-formed one and there is room.
   pub accepted : (input letters ends : List ℕ) → AllBytes input
       → (decoded bases reference input letters ends .number ≡ 0)
       ↔ Readable bases reference input (length letters) (length ends)
-  -- Every division of such a block gives the letters, ends and counts of the answer, whatever follows the block.
-  pub gives : (block rest letters ends : List ℕ) (divided : BlockDivision) → WellFormed bases block
-      → DividesBlock bases block divided → Room reference bases (length letters) (length ends) divided
+  -- Every division of such a block gives the letters, ends and counts of the answer, whatever
+  -- follows the block.
+  pub gives : (block rest letters ends : List ℕ) (divided : BlockDivision)
+      → WellFormed bases block → DividesBlock bases block divided
+      → Room reference bases (length letters) (length ends) divided
       → Decodes bases reference block (block ++ rest) letters ends divided
   -- Judging a block accepts exactly if the input begins with a well-formed one.
   pub validates : (input : List ℕ) → AllBytes input
@@ -179,10 +242,12 @@ pub record ReadsBlocks (bases : ℕ) (reference : List ℕ) : Type 0 where
   pub counts : (block rest : List ℕ) (divided : BlockDivision) → WellFormed bases block
       → DividesBlock bases block divided
       → validatedBlock bases reference (block ++ rest)
-      ≡ acceptedBlock (length block) (blockCounts reference bases divided)
+      ≡ acceptedBlock (length block) (totals exact (readCounts bases reference divided))
 
 abbrev pub Demand2Reading : Type 0
-Demand2Reading = (bases : ℕ) (reference : List ℕ) → ReferenceFits bases reference → ReadsBlocks bases reference
+Demand2Reading =
+    (bases : ℕ) (reference : List ℕ) → ReferenceFits bases reference
+    → ReadsBlocks bases reference
 
 -- ---- Demand 2, writing: every list of reads is written by the fixed rule and reads back
 
@@ -196,8 +261,8 @@ pub record LentFits (input : EncodeInput) : Type 0 where
   pub id : input .id < 2 ^ 64
   pub time : input .time < 2 ^ 64
 
--- The input is these reads, within the limits: at most 50,000, each of 1 to 100,000 letters of A, C, G, T, N, one after
--- the other; with four proposals a read, whatever they say.
+-- The input is these reads, within the limits: at most 50,000, each of 1 to 100,000 letters of A,
+-- C, G, T, N, one after the other; with four proposals a read, whatever they say.
 pub record Writable (reads : List (List ℕ)) (input : EncodeInput) : Type 0 where
   pub few : length reads ≤ maxReads
   pub lengths : All (λ read. lengthInvalid (length read) ≡ false) reads
@@ -213,34 +278,45 @@ pub record Writable (reads : List (List ℕ)) (input : EncodeInput) : Type 0 whe
 abbrev pub codesOf : (reads : List (List ℕ)) → List (List ℕ)
 codesOf reads = map (map codeOfLetter) reads
 
--- The counts of the records that the fixed rule makes.
-abbrev pub ruleCounts : (bases : ℕ) (reference : List ℕ) (reads : List (List ℕ)) (candidates : List Candidate) → Counted
+-- The counts of every record that the fixed rule makes.
+abbrev pub ruleCounts : (bases : ℕ) (reference : List ℕ) (reads : List (List ℕ))
+    (candidates : List Candidate) → List Counted
 ruleCounts bases reference reads candidates =
-    sumCounts (map (λ w. recordCounts reference (w .context) (w .stored)) (writtenFrom bases reference 0 reads candidates))
+    map (λ w. recordCounts reference (w .context) (w .stored))
+    (writtenFrom bases reference 0 reads candidates)
 
-pub record Writes (bases : ℕ) (reference : List ℕ) (reads : List (List ℕ)) (input : EncodeInput) : Type 0 where
-  -- With a buffer as long as the rule's block, the answer is its length; the buffer begins with it and keeps its
-  -- rest.
+pub record Writes (bases : ℕ) (reference : List ℕ) (reads : List (List ℕ)) (input : EncodeInput)
+    : Type 0 where
+  -- With a buffer as long as the rule's block, the answer is its length; the buffer begins with it
+  -- and keeps its rest.
   pub outcome : (out : List ℕ) → length (blockOf bases reference input) ≤ length out
-      → encoded bases reference input out ≡ acceptedBlock (length (blockOf bases reference input)) zeroCounts
+      → encoded bases reference input out
+      ≡ acceptedBlock (length (blockOf bases reference input)) zeroCounts
   pub buffer : (out : List ℕ) → length (blockOf bases reference input) ≤ length out
       → encodedBuffer bases reference input out ≡ pasted out 0 (blockOf bases reference input)
   -- Its header is the fixed rule's, what reading does not look at included.
   pub header : headerOf (blockOf bases reference input)
       ≡ writtenHeader (input .id) (input .time)
-      (length (divisionBytes (writtenDivision bases reference (codesOf reads) (candidatesOf input))))
+      (length
+      (divisionBytes (writtenDivision bases reference (codesOf reads) (candidatesOf input))))
       (writtenSizes (map length reads))
-      (writtenNSection (writtenDivision bases reference (codesOf reads) (candidatesOf input))) (map length reads)
+      (writtenNSection (writtenDivision bases reference (codesOf reads) (candidatesOf input)))
+      (map length reads)
   -- The block is well-formed, and the records of its division are the fixed rule's.
   pub wellFormed : WellFormed bases (blockOf bases reference input)
-  pub division : (divided : BlockDivision) → DividesBlock bases (blockOf bases reference input) divided
+  pub division : (divided : BlockDivision)
+      → DividesBlock bases (blockOf bases reference input) divided
       → (divided .lengths ≡ map length reads)
       × (divided .division ≡ writtenDivision bases reference (codesOf reads) (candidatesOf input))
-  -- Decoding it, whatever follows, gives these letters, these ends and the counts of the rule's records.
-  pub reads-back : (rest letters ends : List ℕ) → total (map length reads) ≤ length letters → length reads ≤ length ends
+  -- Decoding it, whatever follows, gives these letters, these ends and the counts of the rule's
+  -- records.
+  pub reads-back : (rest letters ends : List ℕ) → total (map length reads) ≤ length letters
+      → length reads ≤ length ends
       → (decoded bases reference (blockOf bases reference input ++ rest) letters ends
-      ≡ acceptedBlock (length (blockOf bases reference input)) (ruleCounts bases reference (codesOf reads) (candidatesOf input)))
-      × (decodedLetters bases reference (blockOf bases reference input ++ rest) letters ends ≡ pasted letters 0 (flatten reads))
+      ≡ acceptedBlock (length (blockOf bases reference input))
+      (totals exact (ruleCounts bases reference (codesOf reads) (candidatesOf input))))
+      × (decodedLetters bases reference (blockOf bases reference input ++ rest) letters ends
+      ≡ pasted letters 0 (flatten reads))
       × (decodedEnds bases reference (blockOf bases reference input ++ rest) letters ends
       ≡ pasted ends 0 (placesFrom 0 (map length reads)))
 
@@ -248,18 +324,24 @@ pub record WritesBlocks (bases : ℕ) (reference : List ℕ) : Type 0 where
   -- The writer accepts exactly the reads within the limits for which the buffer has room.
   pub accepted : (input : EncodeInput) (out : List ℕ) → LentFits input
       → (encoded bases reference input out .number ≡ 0)
-      ↔ ((reads : List (List ℕ)) × Writable reads input × (length (blockOf bases reference input) ≤ length out))
-  -- Every such list of reads is written by the fixed rule and reads back, however wrong the proposals are.
-  pub writes : (reads : List (List ℕ)) (input : EncodeInput) → LentFits input → Writable reads input
-      → Writes bases reference reads input
+      ↔ ((reads : List (List ℕ)) × Writable reads input
+      × (length (blockOf bases reference input) ≤ length out))
+  -- Every such list of reads is written by the fixed rule and reads back, however wrong the
+  -- proposals are.
+  pub writes : (reads : List (List ℕ)) (input : EncodeInput) → LentFits input
+      → Writable reads input → Writes bases reference reads input
 
 abbrev pub Demand2Writing : Type 0
-Demand2Writing = (bases : ℕ) (reference : List ℕ) → ReferenceFits bases reference → WritesBlocks bases reference
+Demand2Writing =
+    (bases : ℕ) (reference : List ℕ) → ReferenceFits bases reference
+    → WritesBlocks bases reference
 
 -- ---- Demand 3: judging files
 
--- What a file's beginning has in common with the file: of blocks bs and cs, and of any divisions of them.
-pub record Prefix (bases : ℕ) (reference front whole : List ℕ) (bs cs : List (List ℕ)) : Type 0 where
+-- What a file's beginning has in common with the file: of blocks bs and cs, and of any divisions of
+-- them.
+pub record Prefix (bases : ℕ) (reference front whole : List ℕ) (bs cs : List (List ℕ))
+    : Type 0 where
   -- Its blocks begin the other's.
   pub blocks : Begins bs cs
   -- Up to its end, it is cut where the other is.
@@ -268,28 +350,60 @@ pub record Prefix (bases : ℕ) (reference front whole : List ℕ) (bs cs : List
   pub reads : (ds es : List BlockDivision) → DivideBlocks bases bs ds → DivideBlocks bases cs es
       → Begins (fileReads reference bases ds) (fileReads reference bases es)
 
+-- Decoding a block gives these reads: with room, whatever follows the block, their letters one
+-- after the other and the end of each.
+abbrev pub DecodesTo : (bases : ℕ) (reference block : List ℕ) (reads : List (List ℕ)) → Type 0
+DecodesTo bases reference block reads =
+    (rest letters ends : List ℕ) → length (flatten reads) ≤ length letters
+    → length reads ≤ length ends
+    → (decoded bases reference (block ++ rest) letters ends .number ≡ 0)
+    × (decodedLetters bases reference (block ++ rest) letters ends
+    ≡ pasted letters 0 (flatten reads))
+    × (decodedEnds bases reference (block ++ rest) letters ends
+    ≡ pasted ends 0 (placesFrom 0 (map length reads)))
+
+-- The reads of each block of a list, as decoding gives them.
+abbrev pub DecodeTo : (bases : ℕ) (reference : List ℕ) (blocks : List (List ℕ))
+    (lists : List (List (List ℕ))) → Type 0
+DecodeTo bases reference [] [] = Unit {0}
+DecodeTo bases reference [] (reads ∷ lists) = ⊥
+DecodeTo bases reference (block ∷ blocks) [] = ⊥
+DecodeTo bases reference (block ∷ blocks) (reads ∷ lists) =
+    DecodesTo bases reference block reads × DecodeTo bases reference blocks lists
+
 pub record JudgesFiles (bases : ℕ) (reference : List ℕ) : Type 0 where
   -- Judging accepts exactly the files joined from well-formed blocks.
   pub accepted : (file : List ℕ) → AllBytes file
       → (validated bases reference file .number ≡ 0)
       ↔ ((blocks : List (List ℕ)) × AllWellFormed bases blocks × Joined blocks file)
   -- That list is unique.
-  pub one-list : (file : List ℕ) (bs cs : List (List ℕ)) → AllWellFormed bases bs → AllWellFormed bases cs → Joined bs file
-      → Joined cs file → bs ≡ cs
-  -- The answer is its number and the sums modulo 2 ^ 64, by every list of divisions of the blocks.
-  pub answer : (file : List ℕ) (blocks : List (List ℕ)) (ds : List BlockDivision) → AllWellFormed bases blocks → Joined blocks file
+  pub one-list : (file : List ℕ) (bs cs : List (List ℕ)) → AllWellFormed bases bs
+      → AllWellFormed bases cs → Joined bs file → Joined cs file → bs ≡ cs
+  -- The answer is its number and, for each count, the total over every read of every block, modulo
+  -- 2 ^ 64, by every list of divisions of the blocks.
+  pub answer : (file : List ℕ) (blocks : List (List ℕ)) (ds : List BlockDivision)
+      → AllWellFormed bases blocks → Joined blocks file → DivideBlocks bases blocks ds
+      → validated bases reference file
+      ≡ acceptedFile (length blocks) (totals wrapped (flatMap (readCounts bases reference) ds))
+  -- Its reads are, block after block, the letters that decoding gives each block.
+  pub reads : (blocks : List (List ℕ)) (ds : List BlockDivision) → AllWellFormed bases blocks
       → DivideBlocks bases blocks ds
-      → validated bases reference file ≡ acceptedFile (length blocks) (modulo64 (fileCounts reference bases ds))
+      → (lists : List (List (List ℕ))) × DecodeTo bases reference blocks lists
+      × (fileReads reference bases ds ≡ flatten lists)
   -- A prefix of a file has a prefix of its blocks, cuts and reads.
-  pub prefixes : (front whole : List ℕ) → AllBytes whole → validated bases reference front .number ≡ 0
-      → validated bases reference whole .number ≡ 0 → Begins front whole
-      → (bs cs : List (List ℕ)) → AllWellFormed bases bs → AllWellFormed bases cs → Joined bs front → Joined cs whole
+  pub prefixes : (front whole : List ℕ) → AllBytes whole
+      → validated bases reference front .number ≡ 0 → validated bases reference whole .number ≡ 0
+      → Begins front whole → (bs cs : List (List ℕ)) → AllWellFormed bases bs
+      → AllWellFormed bases cs → Joined bs front → Joined cs whole
       → Prefix bases reference front whole bs cs
-  -- Inside a block the lengths and the division of the DNA section are unique: two divisions that meet the rules
-  -- agree in every cut, kind and field.
-  pub one-division : (block : List ℕ) (one other : BlockDivision) → WellFormed bases block → DividesBlock bases block one
-      → DividesBlock bases block other → (one .lengths ≡ other .lengths) × SameDivision (one .division) (other .division)
+  -- Inside a block the lengths and the division of the DNA section are unique: two divisions that
+  -- meet the rules agree in every cut, kind and field.
+  pub one-division : (block : List ℕ) (one other : BlockDivision) → WellFormed bases block
+      → DividesBlock bases block one → DividesBlock bases block other
+      → (one .lengths ≡ other .lengths) × SameDivision (one .division) (other .division)
 
 -- One claim about every reference, file and list of blocks.
 abbrev pub Demand3 : Type 0
-Demand3 = (bases : ℕ) (reference : List ℕ) → ReferenceFits bases reference → JudgesFiles bases reference
+Demand3 =
+    (bases : ℕ) (reference : List ℕ) → ReferenceFits bases reference
+    → JudgesFiles bases reference

@@ -1,5 +1,5 @@
--- What encoding a block answers (level 2; 01, Numbers of refusal, writer: 1, 30 to 34), and what the lent buffer
--- then holds. No candidate is refused.
+-- What encoding a block answers (level 2; 01, Numbers of refusal, writer: 1, 30 to 34), and what
+-- the lent buffer then holds. No candidate is refused.
 use Prim.Native.Nat.{ℕ, _-_}
 use mathlib.Core.Bool.{Bool, cond, not, _||_}
 use mathlib.Core.List.{List, [], _∷_, map}
@@ -8,16 +8,17 @@ use lib.Dec.{ltb, eqb}
 use Rattle.base.specs.Lists.{build, part, any, member, stepsFrom}
 use Rattle.base.specs.Faults.{Fault, fault}
 use Rattle.base.specs.Paste.{pasted}
-use Rattle.base.specs.Scan.{firstNumber}
+use Rattle.base.specs.Answer.{firstNumber}
 use Rattle.dna.specs.Counts.{zeroCounts}
 use Rattle.dna.specs.Reference.{alphabet, referenceSizeWrong}
 use Rattle.dna.specs.Sizes.{lengthInvalid}
 use Rattle.format.specs.HeaderFaults.{maxReads}
 use Rattle.format.specs.Outcome.{Outcome, refusal, acceptedBlock}
-use Rattle.format.specs.FixedRule.{Candidate, codeOfLetter, ruleBlock}
+use Rattle.format.specs.RuleRecord.{Candidate}
+use Rattle.format.specs.RuleBlock.{codeOfLetter, ruleBlock}
 
--- What the caller lends to the writer (01, The writer's fixed rule): letters in ASCII, the ends of the reads, and four
--- buffers of proposals; b_id and c_time are given.
+-- What the caller lends to the writer (01, The writer's fixed rule): letters in ASCII, the ends of
+-- the reads, and four buffers of proposals; b_id and c_time are given.
 pub record EncodeInput : Type 0 where
   pub letters : List ℕ
   pub ends : List ℕ
@@ -33,7 +34,8 @@ unfoldable pub readsOfInput : (input : EncodeInput) → List (List ℕ)
 readsOfInput input =
     build (length (input .ends)) (λ i.
     map codeOfLetter
-    (part (input .letters) (getD (0 ∷ input .ends) i 0) (getD (input .ends) i 0 - getD (0 ∷ input .ends) i 0)))
+    (part (input .letters) (getD (0 ∷ input .ends) i 0)
+    (getD (input .ends) i 0 - getD (0 ∷ input .ends) i 0)))
 
 -- The candidate of each read.
 unfoldable pub candidatesOf : (input : EncodeInput) → List Candidate
@@ -67,35 +69,48 @@ candidateCountWrong input =
 unfoldable pub readEndsInvalid : (input : EncodeInput) → Bool
 readEndsInvalid input =
     any lengthInvalid (stepsFrom 0 (input .ends))
-    || not (eqb (getD (0 ∷ input .ends) (length (input .ends)) 0) (length (input .letters)))
+    || not
+    (eqb (getD (0 ∷ input .ends) (length (input .ends)) 0) (length (input .letters)))
 
 -- 33: a letter not A, C, G, T, N.
 unfoldable pub letterInvalid : (input : EncodeInput) → Bool
 letterInvalid input = any (λ letter. not (member letter alphabet)) (input .letters)
 
--- The faults of encoding in 01's order; `room` is the length of the lent buffer.
-unfoldable pub encodeFaults : (bases : ℕ) (reference : List ℕ) (input : EncodeInput) (room : ℕ) → List Fault
+-- 34: the block is longer than the buffer; `room` is the length of the lent buffer.
+unfoldable pub blockCapacityTooSmall : (bases : ℕ) (reference : List ℕ) (input : EncodeInput)
+    (room : ℕ) → Bool
+blockCapacityTooSmall bases reference input room =
+    ltb room (length (blockOf bases reference input))
+
+-- The faults of encoding in 01's order.
+unfoldable pub encodeFaults : (bases : ℕ) (reference : List ℕ) (input : EncodeInput) (room : ℕ)
+    → List Fault
 encodeFaults bases reference input room =
     fault 1 (referenceSizeWrong bases reference)
     ∷ fault 30 (readCountTooLarge input)
     ∷ fault 31 (candidateCountWrong input)
     ∷ fault 32 (readEndsInvalid input)
     ∷ fault 33 (letterInvalid input)
-    ∷ fault 34 (ltb room (length (blockOf bases reference input)))
+    ∷ fault 34 (blockCapacityTooSmall bases reference input room)
     ∷ []
 
 -- The number that encoding answers.
-unfoldable pub encodeNumber : (bases : ℕ) (reference : List ℕ) (input : EncodeInput) (out : List ℕ) → ℕ
-encodeNumber bases reference input out = firstNumber (encodeFaults bases reference input (length out))
+unfoldable pub encodeNumber : (bases : ℕ) (reference : List ℕ) (input : EncodeInput)
+    (out : List ℕ) → ℕ
+encodeNumber bases reference input out =
+    firstNumber (encodeFaults bases reference input (length out))
 
 -- The answer is the block's length. Every refusal has index 0.
-unfoldable pub encoded : (bases : ℕ) (reference : List ℕ) (input : EncodeInput) (out : List ℕ) → Outcome
+unfoldable pub encoded : (bases : ℕ) (reference : List ℕ) (input : EncodeInput) (out : List ℕ)
+    → Outcome
 encoded bases reference input out =
     cond (eqb (encodeNumber bases reference input out) 0)
     (acceptedBlock (length (blockOf bases reference input)) zeroCounts)
     (refusal (encodeNumber bases reference input out) 0 0)
 
 -- The lent buffer: the block, and what it held past it; or as it was.
-unfoldable pub encodedBuffer : (bases : ℕ) (reference : List ℕ) (input : EncodeInput) (out : List ℕ) → List ℕ
+unfoldable pub encodedBuffer : (bases : ℕ) (reference : List ℕ) (input : EncodeInput)
+    (out : List ℕ) → List ℕ
 encodedBuffer bases reference input out =
-    cond (eqb (encodeNumber bases reference input out) 0) (pasted out 0 (blockOf bases reference input)) out
+    cond (eqb (encodeNumber bases reference input out) 0)
+    (pasted out 0 (blockOf bases reference input)) out

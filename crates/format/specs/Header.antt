@@ -1,15 +1,27 @@
--- The table of contents (01, The desk's material; 000, table 2): every field at its offset. They make 121
--- bytes; extra bytes of a longer header are skipped.
-use Prim.Native.Nat.{ℕ, _/_, _%_}
+-- The table of contents (01, The desk's material; 000, table 2): every field at its offset, and the
+-- bytes of the fields one after the other. They make 121 bytes; extra bytes of a longer header are
+-- skipped.
+use Prim.Native.Nat.{ℕ, suc, _-_, _/_, _%_, _^_}
 use mathlib.Core.Bool.{Bool}
-use mathlib.Core.List.{List}
-use lib.IntN.{ℤ}
+use mathlib.Core.List.{List, [], _∷_, flatten}
+use lib.IntN.{ℤ, pos, negsuc}
 use lib.Dec.{eqb}
-use Rattle.base.specs.Numbers.{le, int32, nonNegative}
+use Rattle.base.specs.Numbers.{le, leBytes, int32, nonNegative}
 
 -- The length of the table of contents.
 abbrev pub tableLength : ℕ
 tableLength = 121
+
+-- The bytes 49 7C.
+abbrev pub magicNumber : ℕ
+magicNumber = 0x7c49
+
+-- The versions that are read; the first is the one that is written.
+abbrev pub minVersion : ℕ
+minVersion = 20505
+
+abbrev pub maxVersion : ℕ
+maxVersion = 29999
 
 -- The names are those of 000. l_header, l_read and n_reads are signed.
 pub record Header : Type 0 where
@@ -44,8 +56,8 @@ pub record Header : Type 0 where
   pub «checksum_ref» : ℕ
   pub «checksum_comp» : ℕ
 
--- The header of the opened block (01: one whose outer entropy coding another tool has removed) at an
--- input's start: each field at its offset.
+-- The header of the opened block (01: one whose outer entropy coding another tool has removed) at
+-- an input's start: each field at its offset.
 unfoldable pub headerOf : (input : List ℕ) → Header
 headerOf input =
     record {
@@ -80,6 +92,47 @@ headerOf input =
       «checksum_ref» = le 8 input 105;
       «checksum_comp» = le 8 input 113;
     }
+
+-- The four bytes of a signed number.
+unfoldable pub int32Bytes : (number : ℤ) → List ℕ
+int32Bytes (pos n) = leBytes 4 n
+int32Bytes (negsuc n) = leBytes 4 (2 ^ 32 - suc n)
+
+-- The bytes of a table of contents, field by field.
+unfoldable pub headerBytes : (header : Header) → List ℕ
+headerBytes header =
+    flatten
+    (leBytes 2 (header .magic)
+    ∷ int32Bytes (header .«l_header»)
+    ∷ leBytes 4 (header .«l_dna»)
+    ∷ leBytes 4 (header .«l_names»)
+    ∷ leBytes 4 (header .«l_qualN»)
+    ∷ leBytes 4 (header .«l_qual»)
+    ∷ leBytes 4 (header .«l_size»)
+    ∷ leBytes 4 (header .«l_N»)
+    ∷ leBytes 4 (header .«l_m1»)
+    ∷ leBytes 4 (header .«l_m2»)
+    ∷ leBytes 4 (header .«l_m3»)
+    ∷ leBytes 4 (header .flags)
+    ∷ int32Bytes (header .«l_read»)
+    ∷ int32Bytes (header .«n_reads»)
+    ∷ leBytes 2 (header .version)
+    ∷ leBytes 8 (header .«b_id»)
+    ∷ leBytes 1 (header .«q_type»)
+    ∷ leBytes 1 (header .«q4_1»)
+    ∷ leBytes 1 (header .«q4_2»)
+    ∷ leBytes 1 (header .«q4_3»)
+    ∷ leBytes 1 (header .«q4_4»)
+    ∷ leBytes 4 (header .«l_names_raw»)
+    ∷ leBytes 4 (header .«l_DNA_raw»)
+    ∷ leBytes 4 (header .«l_qual_raw»)
+    ∷ leBytes 4 (header .«l_qualN_raw»)
+    ∷ leBytes 4 (header .«l_qualTotal_raw»)
+    ∷ leBytes 8 (header .«c_time»)
+    ∷ leBytes 8 (header .«checksum_raw»)
+    ∷ leBytes 8 (header .«checksum_ref»)
+    ∷ leBytes 8 (header .«checksum_comp»)
+    ∷ [])
 
 -- Whether a flag is set; a flag is a power of 2.
 unfoldable pub flagSet : (flags flag : ℕ) → Bool

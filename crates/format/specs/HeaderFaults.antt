@@ -6,13 +6,8 @@ use lib.ListN.{length}
 use lib.IntN.{ℤ, pos, negsuc}
 use lib.Dec.{ltb, eqb}
 use Rattle.base.specs.Faults.{Fault, fault}
-use Rattle.format.specs.Header.{
-  tableLength,
-  headerOf,
-  flagSet,
-  fallbackFlag,
-  encryptedFlag,
-}
+use Rattle.format.specs.Header.{tableLength, magicNumber, minVersion, maxVersion, headerOf}
+use Rattle.format.specs.Header.{flagSet, fallbackFlag, encryptedFlag}
 use Rattle.format.specs.Sections.{blockLength}
 
 -- The most reads that a block may have.
@@ -35,12 +30,12 @@ headerTruncated input = ltb (length input) tableLength
 
 -- 3: the magic is not the bytes 49 7C.
 unfoldable pub magicWrong : (input : List ℕ) → Bool
-magicWrong input = not (eqb (headerOf input .magic) 0x7c49)
+magicWrong input = not (eqb (headerOf input .magic) magicNumber)
 
 -- 4: version not 20505 to 29999.
 unfoldable pub versionUnsupported : (input : List ℕ) → Bool
 versionUnsupported input =
-    ltb (headerOf input .version) 20505 || ltb 29999 (headerOf input .version)
+    ltb (headerOf input .version) minVersion || ltb maxVersion (headerOf input .version)
 
 -- 5: l_header below 121.
 unfoldable pub headerLengthTooSmall : (input : List ℕ) → Bool
@@ -49,7 +44,8 @@ headerLengthTooSmall input = signedBelow tableLength (headerOf input .«l_header
 -- 6: flag 0x40 or 0x80 set.
 unfoldable pub flagUnsupported : (input : List ℕ) → Bool
 flagUnsupported input =
-    flagSet (headerOf input .flags) fallbackFlag || flagSet (headerOf input .flags) encryptedFlag
+    flagSet (headerOf input .flags) fallbackFlag
+    || flagSet (headerOf input .flags) encryptedFlag
 
 -- 7: n_reads outside 0 to 50,000.
 unfoldable pub readCountOutOfRange : (input : List ℕ) → Bool
@@ -59,14 +55,19 @@ readCountOutOfRange input = signedOutside maxReads (headerOf input .«n_reads»)
 unfoldable pub sectionsTruncated : (input : List ℕ) → Bool
 sectionsTruncated input = ltb (length input) (blockLength (headerOf input))
 
--- The faults of a header, in the order of their numbers.
-unfoldable pub headerFaults : (input : List ℕ) → List Fault
-headerFaults input =
-    fault 2 (headerTruncated input)
-    ∷ fault 3 (magicWrong input)
+-- The faults of a table of contents that is there, in the order of their numbers; 6 is as its flags
+-- say, by the test that the kind of block asks for.
+unfoldable pub tableFaults : (input : List ℕ) (unsupported : Bool) → List Fault
+tableFaults input unsupported =
+    fault 3 (magicWrong input)
     ∷ fault 4 (versionUnsupported input)
     ∷ fault 5 (headerLengthTooSmall input)
-    ∷ fault 6 (flagUnsupported input)
+    ∷ fault 6 unsupported
     ∷ fault 7 (readCountOutOfRange input)
     ∷ fault 8 (sectionsTruncated input)
     ∷ []
+
+-- The faults of a header.
+unfoldable pub headerFaults : (input : List ℕ) → List Fault
+headerFaults input =
+    fault 2 (headerTruncated input) ∷ tableFaults input (flagUnsupported input)

@@ -7,7 +7,9 @@ pub mod Joined
 pub mod Outcome
 pub mod BlockAnswer
 pub mod FileAnswer
-pub mod FixedRule
+pub mod RuleEntries
+pub mod RuleRecord
+pub mod RuleBlock
 pub mod EncodeAnswer
 pub mod Demands
 pub mod Examples

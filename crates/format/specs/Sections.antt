@@ -1,5 +1,6 @@
--- The nine sections, 01's bodies (01, The desk's material: they follow in the order of their length fields;
--- each length counts opened bytes). Read are those of DNA, sizes and N; all others are carried unread.
+-- The nine sections, 01's bodies (01, The desk's material: they follow in the order of their length
+-- fields; each length counts opened bytes). Read are those of DNA, sizes and N; all others are
+-- carried unread.
 use Prim.Native.Nat.{ℕ, _+_}
 use mathlib.Core.List.{List, [], _∷_}
 use lib.ListN.{getD, take}
@@ -33,7 +34,8 @@ nNumber = 5
 
 -- Where section `number` starts: after the header and the sections before it.
 unfoldable pub sectionStart : (header : Header) (number : ℕ) → ℕ
-sectionStart header number = nonNegative (header .«l_header») + total (take number (sectionLengths header))
+sectionStart header number =
+    nonNegative (header .«l_header») + total (take number (sectionLengths header))
 
 -- How many bytes section `number` has; none above 8.
 unfoldable pub sectionLength : (header : Header) (number : ℕ) → ℕ
@@ -41,9 +43,10 @@ sectionLength header number = getD (sectionLengths header) number 0
 
 -- Section `number` of the block at an input's start.
 unfoldable pub sectionOf : (input : List ℕ) (number : ℕ) → List ℕ
-sectionOf input number = part input (sectionStart (headerOf input) number) (sectionLength (headerOf input) number)
+sectionOf input number =
+    part input (sectionStart (headerOf input) number) (sectionLength (headerOf input) number)
 
--- The length of a block: its header and its sections. The sum is exact. A negative l_header is refused
--- with 5.
+-- The length of a block: its header and its sections. The sum is exact. A negative l_header is
+-- refused with 5.
 unfoldable pub blockLength : (header : Header) → ℕ
 blockLength header = nonNegative (header .«l_header») + total (sectionLengths header)

@@ -19,11 +19,12 @@ pub record BlockDivision : Type 0 where
 -- The division meets the rules for the lengths that the header or size section gives.
 pub record DividesBlock (bases : ℕ) (block : List ℕ) (divided : BlockDivision) : Type 0 where
   pub lengths-are : LengthsAre block (divided .lengths)
-  pub divides : Divides bases (divided .lengths) (sectionOf block nNumber) (sectionOf block dnaNumber) (divided .division)
+  pub divides : Divides bases (divided .lengths) (sectionOf block nNumber)
+      (sectionOf block dnaNumber) (divided .division)
 
--- 01: an opened block is well-formed under a reference of so many bases (its bytes do not matter, only how
--- many bases it has). The block is exactly its header and sections, earns none of 2 to 11 (9 by having lengths),
--- and some division of its DNA section meets the rules.
+-- 01: an opened block is well-formed under a reference of so many bases (its bytes do not matter,
+-- only how many bases it has). The block is exactly its header and sections, earns none of 2 to 11
+-- (9 by having lengths), and some division of its DNA section meets the rules.
 pub record WellFormed (bases : ℕ) (block : List ℕ) : Type 0 where
   pub bytes : AllBytes block
   pub exact : length block ≡ blockLength (headerOf block)

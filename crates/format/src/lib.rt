@@ -1,1 +1,2 @@
-// The definitions of headers, blocks and files stand in specs/, their theorems in proofs/. There is no code here.
+// The definitions of headers, blocks and files stand in specs/, their theorems in proofs/. There
+// is no code here.

@@ -1,3 +1,2 @@
-pub mod TableFaults
 pub mod WrittenHeader
 pub mod Part

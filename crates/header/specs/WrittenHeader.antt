@@ -1,47 +1,26 @@
--- The table of contents that is written, of the fields that vary; and its bytes in the three parts
--- in which they are written.
+-- The fields of a table of contents that vary, and its bytes in the three parts in which they are
+-- written.
 use Prim.Native.Nat.{ℕ}
 use mathlib.Core.List.{List, [], _∷_, flatten}
-use lib.IntN.{pos}
 use Rattle.base.specs.Lists.{build}
 use Rattle.base.specs.Numbers.{leBytes}
-use Rattle.format.specs.Header.{Header}
+use Rattle.format.specs.Header.{tableLength, magicNumber, minVersion}
+use Rattle.format.specs.RuleBlock.{HeaderFields}
 use Rattle.header.specs.declared.writing.VaryingFields.{VaryingFields}
 
--- The header with these fields; every other is as the fixed rule writes it.
-unfoldable pub headerWith : (fields : VaryingFields) → Header
-headerWith fields =
+-- The fields in the terms of the definitions.
+abbrev pub fieldsOf : (fields : VaryingFields) → HeaderFields
+fieldsOf fields =
     record {
-      magic = 0x7c49;
-      «l_header» = pos 121;
       «l_dna» = fields .«l_dna»;
-      «l_names» = 0;
-      «l_qualN» = 0;
-      «l_qual» = 0;
       «l_size» = fields .«l_size»;
       «l_N» = fields .«l_n»;
-      «l_m1» = 0;
-      «l_m2» = 0;
-      «l_m3» = 0;
       flags = fields .flags;
-      «l_read» = pos (fields .«l_read»);
-      «n_reads» = pos (fields .«n_reads»);
-      version = 20505;
+      «l_read» = fields .«l_read»;
+      «n_reads» = fields .«n_reads»;
       «b_id» = fields .«b_id»;
-      «q_type» = 40;
-      «q4_1» = 0;
-      «q4_2» = 0;
-      «q4_3» = 0;
-      «q4_4» = 0;
-      «l_names_raw» = 0;
       «l_DNA_raw» = fields .«l_dna_raw»;
-      «l_qual_raw» = 0;
-      «l_qualN_raw» = 0;
-      «l_qualTotal_raw» = 0;
       «c_time» = fields .«c_time»;
-      «checksum_raw» = 0;
-      «checksum_ref» = 0;
-      «checksum_comp» = 0;
     }
 
 -- So many zeros.
@@ -52,8 +31,8 @@ zeros count = build count (λ k. 0)
 unfoldable pub lengthBytes : (dna sizes ns : ℕ) → List ℕ
 lengthBytes dna sizes ns =
     flatten
-    (leBytes 2 0x7c49
-    ∷ leBytes 4 121
+    (leBytes 2 magicNumber
+    ∷ leBytes 4 tableLength
     ∷ leBytes 4 dna
     ∷ zeros 12
     ∷ leBytes 4 sizes
@@ -68,7 +47,7 @@ countBytes flags size count id =
     (leBytes 4 flags
     ∷ leBytes 4 size
     ∷ leBytes 4 count
-    ∷ leBytes 2 20505
+    ∷ leBytes 2 minVersion
     ∷ leBytes 8 id
     ∷ [])
 

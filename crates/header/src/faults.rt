@@ -18,7 +18,7 @@ use dna::refusals::VERSION_UNSUPPORTED;
 ghost use mathlib.Core.Path.{_≡_};
 ghost use Prim.Native.Nat.{_≤_, _<_};
 ghost use lib.ListN.{length};
-ghost use Rattle.base.specs.Scan.{firstNumber};
+ghost use Rattle.base.specs.Answer.{firstNumber};
 ghost use Rattle.format.specs.Header.{tableLength, flagSet};
 ghost use Rattle.format.specs.HeaderFaults.{
   signedBelow,
@@ -30,9 +30,9 @@ ghost use Rattle.format.specs.HeaderFaults.{
   flagUnsupported,
   readCountOutOfRange,
   sectionsTruncated,
+  tableFaults,
   headerFaults,
 };
-ghost use Rattle.header.specs.TableFaults.{tableFaults};
 
 pub const MAGIC: u16 = 0x7c49;
 

@@ -96,11 +96,11 @@ pub fn header_length(input: &[u8]) -> usize
 }
 
 // The number of reads.
-pub fn read_count(input: &[u8]) -> usize
+pub fn read_count(input: &[u8]) -> u32
     requires { ⌜ tableLength ≤ length (now input) ⌝ }
     ensures { λ r. ⌜ (r ≡ readCount (headerOf (now (input .entry)))) × (r < 2 ^ 31) ⌝ }
 {
-    signed_size(n_reads(input))
+    non_negative(n_reads(input))
 }
 
 // Whether all reads have one length, l_read.

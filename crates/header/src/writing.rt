@@ -1,6 +1,8 @@
 // A table of contents written over the first 121 bytes of a lent buffer. What varies is given;
-// every other field has the value that the fixed rule gives it (specs/FixedRule.antt of format).
+// every other field has the value that the fixed rule gives it (specs/RuleBlock.antt of format).
 use crate::faults::MAGIC;
+use crate::faults::MIN_VERSION;
+use crate::fields::TABLE_LENGTH;
 use integers::put_u16;
 use integers::put_u32;
 use integers::put_u64;
@@ -8,21 +10,18 @@ ghost use mathlib.Core.Path.{_≡_};
 ghost use Prim.Native.Nat.{_+_, _≤_};
 ghost use lib.ListN.{length};
 ghost use Rattle.base.specs.Paste.{pasted};
-ghost use Rattle.format.specs.Header.{tableLength};
-ghost use Rattle.format.specs.FixedRule.{headerBytes};
+ghost use Rattle.format.specs.Header.{tableLength, headerBytes};
+ghost use Rattle.format.specs.RuleBlock.{headerWith};
 ghost use Rattle.header.specs.WrittenHeader.{
   zeros,
   lengthBytes,
   countBytes,
   rawBytes,
-  headerWith,
+  fieldsOf,
 };
 
 // l_header, with no extra bytes.
-const HEADER_LENGTH: u32 = 121;
-
-// The version that is written.
-const WRITTEN_VERSION: u16 = 20505;
+const HEADER_LENGTH: u32 = TABLE_LENGTH as u32;
 
 // q_type.
 const QUALITY_TYPE: u32 = 40;
@@ -44,7 +43,7 @@ pub struct VaryingFields {
 pub fn put_header(out: &mut [u8], fields: VaryingFields)
     requires { ⌜ tableLength ≤ length (now out) ⌝ }
     ensures { λ _. ⌜ now (out .exit)
-        ≡ pasted (now (out .entry)) 0 (headerBytes (headerWith fields)) ⌝ }
+        ≡ pasted (now (out .entry)) 0 (headerBytes (headerWith (fieldsOf fields))) ⌝ }
 {
     put_lengths(out, fields.l_dna, fields.l_size, fields.l_n);
     put_counts(
@@ -80,7 +79,7 @@ fn put_counts(out: &mut [u8], flags: u32, size: u32, count: u32, id: u64)
     put_u32(out, 42, flags);
     put_u32(out, 46, size);
     put_u32(out, 50, count);
-    put_u16(out, 54, WRITTEN_VERSION);
+    put_u16(out, 54, MIN_VERSION);
     put_u64(out, 56, id);
 }
 

@@ -6,19 +6,11 @@ use mathlib.Core.List.{List, [], _∷_, _++_}
 use mathlib.Core.Option.{Option, none, some}
 use Rattle.base.specs.Lists.{any}
 use Rattle.base.specs.Faults.{Fault}
-use Rattle.base.specs.Scan.{Scan, found, refused, checked, andThen}
-use Rattle.base.proofs.ListLaws.{by-test}
+use Rattle.base.specs.Answer.{Scan, found, refused, checked, andThen}
+use Rattle.base.proofs.AnswerLaws.{checked-into}
 use Rattle.base.proofs.Tests.{absurd-test}
-use Rattle.dna.specs.Sizes.{
-  StoredSize,
-  same,
-  inByte,
-  inWords,
-  lengthsFrom,
-  lengthInvalid,
-  firstIsSame,
-  isSame,
-}
+use Rattle.dna.specs.Sizes.{StoredSize, same, inByte, inWords, lengthsFrom, lengthInvalid}
+use Rattle.dna.specs.Sizes.{firstIsSame, isSame}
 use Rattle.lengths.specs.Given.{lengthsFound}
 use Rattle.lengths.specs.Cursor.{storedLength, consed}
 
@@ -120,19 +112,17 @@ collected-then previous (refused number) second rest = refl
 -- A scan after tests.
 pub collected-checked : (previous : ℕ) (faults : List Fault) (scan : Scan (List StoredSize))
     (rest : ℕ → ℕ → Option (List ℕ))
-    → collected previous (checked faults scan) rest ≡ cond (any (λ f. f .fits) faults) none
+    → collected previous (checked refused faults scan) rest ≡ cond (any (λ f. f .fits) faults) none
     (collected previous scan rest)
-unfolding collected checked any
-collected-checked previous [] scan rest = refl
-collected-checked previous (f ∷ faults) scan rest =
-    by-test (f .fits) (λ t. rw t) (λ t. rw t (collected-checked previous faults scan rest))
+unfolding collected
+collected-checked previous faults scan rest =
+    checked-into (λ s. collected previous s rest) (λ n. n) none (λ n. refl) faults scan
 
 pub found-checked : (faults : List Fault) (scan : Scan (List ℕ))
-    → lengthsFound (checked faults scan) ≡ cond (any (λ f. f .fits) faults) none (lengthsFound scan)
-unfolding lengthsFound checked any
-found-checked [] scan = refl
-found-checked (f ∷ faults) scan =
-    by-test (f .fits) (λ t. rw t) (λ t. rw t (found-checked faults scan))
+    → lengthsFound (checked refused faults scan) ≡ cond (any (λ f. f .fits) faults) none
+    (lengthsFound scan)
+unfolding lengthsFound
+found-checked faults scan = checked-into lengthsFound (λ n. n) none (λ n. refl) faults scan
 
 -- ---- The end of the section
 

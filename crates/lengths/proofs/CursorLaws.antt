@@ -12,19 +12,13 @@ use borrow.Author.Tests.{lt-ltb}
 use Rattle.base.specs.Lists.{any, AllBytes}
 use Rattle.base.specs.Groups.{groupSizes}
 use Rattle.base.specs.Faults.{fault}
-use Rattle.base.specs.Scan.{Scan, found, refused, checked, andThen}
+use Rattle.base.specs.Answer.{Scan, found, refused, checked, andThen}
 use Rattle.dna.specs.Sizes.{StoredSize, lengthsFrom, lengthInvalid, firstIsSame}
-use Rattle.dna.specs.SizesAt.{sizeGroupsAt, sizesAnswer}
+use Rattle.dna.specs.SizesAt.{sizeGroupsAt, sizesAnswer, fixedLengths, lengthsGiven}
 use Rattle.lengths.specs.declared.SizeCursor.{SizeCursor}
-use Rattle.lengths.specs.Given.{fixedLengths, lengthsGiven, lengthsFound}
-use Rattle.lengths.specs.Cursor.{
-  firstCursor,
-  lengthOrRefused,
-  lengthStep,
-  cursorEnded,
-  consed,
-  lengthsLeft,
-}
+use Rattle.lengths.specs.Given.{lengthsFound}
+use Rattle.lengths.specs.Cursor.{firstCursor, lengthOrRefused, lengthStep, cursorEnded}
+use Rattle.lengths.specs.Cursor.{consed, lengthsLeft}
 use Rattle.lengths.proofs.Collected.{collected, found-checked, prefixed-end, first-invalid}
 use Rattle.lengths.proofs.GroupSteps.{on-judged}
 use Rattle.lengths.proofs.GroupsLeft.{atEnd, groups-left}
@@ -43,7 +37,7 @@ or-same false false false h = refl
 scan-collected : (section : List ℕ) (scan : Scan (List StoredSize))
     → lengthsFound
     (andThen scan (λ stored end.
-    checked
+    checked refused
     (fault 9 (ltb end (length section))
     ∷ fault 9 (firstIsSame stored)
     ∷ fault 9 (any lengthInvalid (lengthsFrom 0 stored))

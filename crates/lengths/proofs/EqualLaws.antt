@@ -12,7 +12,7 @@ use lib.Dec.{eqb}
 use borrow.Author.Tests.{eq-eqb, ne-eqb}
 use Rattle.base.specs.Lists.{any, stepsFrom}
 use Rattle.base.proofs.StepsLaws.{length-stepsFrom}
-use Rattle.format.specs.FixedRule.{allEqual}
+use Rattle.format.specs.RuleBlock.{allEqual}
 use Rattle.lengths.proofs.WritingLaws.{drop-all}
 
 -- A length from index i on differs from the first.

@@ -13,7 +13,8 @@ use Rattle.base.specs.Lists.{total}
 use Rattle.base.proofs.Tests.{neither-or, or-right}
 use Rattle.dna.specs.Sizes.{maxReadLength, lengthInvalid}
 use Rattle.lengths.specs.declared.LengthsSum.the-variants as sums
-use Rattle.lengths.specs.Given.{fixedLengths, lengthsFound, lengthsSum}
+use Rattle.dna.specs.SizesAt.{fixedLengths}
+use Rattle.lengths.specs.Given.{lengthsFound, lengthsSum}
 use Rattle.lengths.proofs.CursorLaws.{fixed-found}
 
 total-replicate : (n x : ℕ) → total (replicate n x) ≡ n * x

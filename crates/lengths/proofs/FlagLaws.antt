@@ -12,7 +12,8 @@ use Rattle.base.specs.Numbers.{leBytes}
 use Rattle.base.specs.Packed.{byteOf}
 use Rattle.base.proofs.BitLaws.{cond-small}
 use Rattle.base.proofs.PackedLaws.{byteOf-below, byteOf-cong}
-use Rattle.dna.specs.Sizes.{StoredSize, inWords, isSame, isInByte, flagByte}
+use Rattle.base.specs.Groups.{flagByte}
+use Rattle.dna.specs.Sizes.{StoredSize, inWords, isSame, isInByte}
 use Rattle.lengths.specs.Form.{storedOf, flagBits}
 use Rattle.lengths.proofs.FormLaws.{length-storedOf, part-at}
 

@@ -13,7 +13,7 @@ use Rattle.base.specs.Lists.{part, stepsFrom}
 use Rattle.base.proofs.StepsLaws.{length-stepsFrom, stepsFrom-first, stepsFrom-later}
 use Rattle.dna.specs.Sizes.{StoredSize, same, inByte, inWords, storedBytes}
 use Rattle.dna.proofs.SizeBytesLaws.{length-varint16}
-use Rattle.format.specs.FixedRule.{storedFrom}
+use Rattle.format.specs.RuleBlock.{storedFrom}
 use Rattle.format.proofs.WrittenSizes.{length-storedFrom}
 use Rattle.lengths.specs.Form.{storedOf, storedAfter, noLength, endBefore, lengthBefore}
 

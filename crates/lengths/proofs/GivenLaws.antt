@@ -3,62 +3,17 @@
 use mathlib.Core.Path.{_≡_, refl, sym, ap, _∙_}
 use Prim.Native.Nat.{ℕ}
 use native.Mathlib.Omega.{arith}
-use mathlib.Core.Bool.{Bool, true, false, cond, not, _&&_}
-use mathlib.Core.List.{List, [], _∷_}
+use mathlib.Core.Bool.{Bool, true, false, cond, not}
+use mathlib.Core.List.{List}
 use mathlib.Core.Option.{Option, none, some}
-use lib.ListN.{length, replicate}
-use lib.IntN.{ℤ, pos, negsuc}
-use lib.Dec.{ltb, eqb}
+use lib.Dec.{eqb}
 use borrow.Author.Tests.{eq-eqb, ne-eqb}
 use Rattle.base.specs.Lists.{total}
-use Rattle.base.specs.Numbers.{nonNegative}
-use Rattle.base.specs.Faults.{fault}
-use Rattle.base.specs.Scan.{Scan, found, refused, checked}
+use Rattle.base.specs.Answer.{Scan, found, refused, andThen, refusedAs}
 use Rattle.base.proofs.ListLaws.{by-test}
-use Rattle.dna.specs.Sizes.{lengthInvalid}
-use Rattle.dna.specs.SizesAt.{sizesAnswer}
-use Rattle.format.specs.Header.{headerOf, flagSet, sameLengthFlag, readCount}
-use Rattle.format.specs.Sections.{sectionOf, sizeNumber}
-use Rattle.format.specs.BlockAnswer.{
-  BlockAnswer,
-  refuses,
-  lReadInvalid,
-  headerLengths,
-  lengthsAnswer,
-  lengthsStage,
-}
+use Rattle.dna.specs.Walk.{ofRead, Walk, refusedAt}
 use Rattle.lengths.specs.declared.LengthsSum.the-variants as sums
-use Rattle.lengths.specs.Given.{
-  fixedLengths,
-  lengthsGiven,
-  lengthsFound,
-  lengthsSum,
-  lengthsNumber,
-}
-
-each-invalid : (each : ℤ) → lReadInvalid each ≡ lengthInvalid (nonNegative each)
-unfolding lReadInvalid nonNegative lengthInvalid
-each-invalid (pos n) = refl
-each-invalid (negsuc n) = refl
-
--- The lengths of a block are those that its header's numbers and its size section give.
-pub lengthsAnswer-given : (input : List ℕ)
-    → lengthsAnswer input
-    ≡ lengthsGiven (flagSet (headerOf input .flags) sameLengthFlag)
-    (nonNegative (headerOf input .«l_read»))
-    (readCount (headerOf input)) (sectionOf input sizeNumber)
-unfolding lengthsAnswer headerLengths lengthsGiven fixedLengths
-lengthsAnswer-given input =
-    ap
-    (λ (t : Bool).
-    cond (flagSet (headerOf input .flags) sameLengthFlag)
-    (checked
-    (fault 9 (ltb 0 (length (sectionOf input sizeNumber)))
-    ∷ fault 9 (ltb 0 (readCount (headerOf input)) && t)
-    ∷ [])
-    (found (replicate (readCount (headerOf input)) (nonNegative (headerOf input .«l_read»))) 0))
-    (sizesAnswer (readCount (headerOf input)) (sectionOf input sizeNumber)))
-    (each-invalid (headerOf input .«l_read»))
+use Rattle.lengths.specs.Given.{lengthsFound, lengthsSum, lengthsNumber}
 
 -- ---- What a number says
 
@@ -92,10 +47,10 @@ fault-size raw sum (some lengths) e other =
 -- ---- What a number says of a block
 
 -- 9 is the answer of the block.
-pub stage-nine : (raw : ℕ) (scan : Scan (List ℕ)) (rest : List ℕ → BlockAnswer) → lengthsNumber raw
-    (lengthsFound scan) ≡ 9
-    → lengthsStage scan rest ≡ refuses 9 0
-unfolding lengthsFound lengthsNumber lengthsStage
+pub stage-nine : {A : Type 0} (raw : ℕ) (scan : Scan (List ℕ)) (rest : List ℕ → ℕ → Walk A)
+    → lengthsNumber raw (lengthsFound scan) ≡ 9
+    → andThen (refusedAs (λ n. ofRead 0 9) scan) rest ≡ refusedAt 0 9
+unfolding lengthsFound lengthsNumber andThen refusedAs
 stage-nine raw (refused number) rest e = refl
 stage-nine raw (found lengths next) rest e =
     by-test (eqb raw (total lengths))

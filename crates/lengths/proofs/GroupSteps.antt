@@ -8,7 +8,7 @@ use mathlib.Core.List.{List, _∷_}
 use mathlib.Core.Option.{Option, none}
 use lib.Dec.{eqb}
 use borrow.Author.Tests.{ne-eqb}
-use Rattle.base.specs.Scan.{Scan, found, refused, andThen}
+use Rattle.base.specs.Answer.{Scan, found, refused, andThen}
 use Rattle.base.specs.Packed.{bit}
 use Rattle.base.proofs.ShiftLaws.{shifted, highest-shifted}
 use Rattle.dna.specs.Sizes.{StoredSize, lengthInvalid}
@@ -16,21 +16,9 @@ use Rattle.dna.specs.SizesAt.{storedAt, storedSizesAt}
 use Rattle.lengths.specs.declared.SizeCursor.{SizeCursor}
 use Rattle.lengths.specs.declared.LengthStep.{LengthStep}
 use Rattle.lengths.specs.declared.LengthStep.the-variants as steps
-use Rattle.lengths.specs.Cursor.{
-  flagsTaken,
-  storedLength,
-  storedRead,
-  sizeAt,
-  cursorAfter,
-  lengthOrRefused,
-  stepOfSize,
-  flaggedStep,
-  stepOfFlags,
-  lengthStep,
-  consed,
-  onStep,
-  lengthsLeft,
-}
+use Rattle.lengths.specs.Cursor.{flagsTaken, storedLength, storedRead, sizeAt, cursorAfter}
+use Rattle.lengths.specs.Cursor.{lengthOrRefused, stepOfSize, flaggedStep, stepOfFlags}
+use Rattle.lengths.specs.Cursor.{lengthStep, consed, onStep, lengthsLeft}
 use Rattle.lengths.proofs.Collected.{collected, prefixed, collected-cons}
 
 -- A step whose length is judged.

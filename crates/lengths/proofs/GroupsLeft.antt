@@ -10,7 +10,7 @@ use lib.Dec.{ltb, eqb}
 use borrow.Author.Tests.{eq-eqb, eqb-true}
 use Rattle.base.specs.Lists.{build, any, AllBytes}
 use Rattle.base.specs.Groups.{groupSizes, byteBitStray}
-use Rattle.base.specs.Scan.{Scan}
+use Rattle.base.specs.Answer.{Scan}
 use Rattle.base.proofs.ListLaws.{by-order, by-test, below-at}
 use Rattle.base.proofs.ShiftLaws.{shifted, shifted-stray}
 use Rattle.base.proofs.GroupSizeLaws.{groupSizes-zero, groupSizes-cons}
@@ -18,22 +18,10 @@ use Rattle.base.proofs.Tests.{absurd-test, or-neither}
 use Rattle.dna.specs.Sizes.{StoredSize}
 use Rattle.dna.specs.SizesAt.{storedSizesAt, sizeGroupAt, sizeGroupsAt}
 use Rattle.lengths.specs.declared.SizeCursor.{SizeCursor}
-use Rattle.lengths.specs.Cursor.{
-  flagsTaken,
-  stepOfFlags,
-  lengthStep,
-  cursorEnded,
-  onStep,
-  lengthsLeft,
-}
-use Rattle.lengths.proofs.Collected.{
-  prefixed,
-  collected,
-  collected-none,
-  collected-cong,
-  collected-then,
-  collected-checked,
-}
+use Rattle.lengths.specs.Cursor.{flagsTaken, stepOfFlags, lengthStep, cursorEnded, onStep}
+use Rattle.lengths.specs.Cursor.{lengthsLeft}
+use Rattle.lengths.proofs.Collected.{prefixed, collected, collected-none, collected-cong}
+use Rattle.lengths.proofs.Collected.{collected-then, collected-checked}
 use Rattle.lengths.proofs.GroupSteps.{groupCursor, step-collected, left-collected}
 
 -- After the last read the section is at its end.

@@ -10,5 +10,6 @@ pub mod GivenLaws
 pub mod FormLaws
 pub mod FlagLaws
 pub mod WrittenWords
+pub mod WrittenSize
 pub mod WritingLaws
 pub mod EqualLaws

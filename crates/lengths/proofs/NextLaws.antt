@@ -10,22 +10,16 @@ use mathlib.Core.Option.{Option, none, some}
 use lib.ListN.{length, getD, drop}
 use lib.Seq.{drop-cons}
 use Rattle.base.specs.Lists.{total, AllBytes}
-use Rattle.base.specs.Scan.{found}
-use Rattle.dna.specs.SizesAt.{sizesAnswer}
+use Rattle.base.specs.Answer.{found}
+use Rattle.dna.specs.SizesAt.{sizesAnswer, lengthsGiven}
 use Rattle.lengths.specs.declared.SizeCursor.{SizeCursor}
 use Rattle.lengths.specs.declared.LengthStep.{LengthStep}
 use Rattle.lengths.specs.declared.LengthStep.the-variants as steps
 use Rattle.lengths.specs.declared.LengthsSum.{LengthsSum}
 use Rattle.lengths.specs.declared.LengthsSum.the-variants as sums
-use Rattle.lengths.specs.Given.{lengthsGiven, lengthsFound, lengthsSum}
-use Rattle.lengths.specs.Cursor.{
-  firstCursor,
-  lengthStep,
-  cursorEnded,
-  consed,
-  onStep,
-  lengthsLeft,
-}
+use Rattle.lengths.specs.Given.{lengthsFound, lengthsSum}
+use Rattle.lengths.specs.Cursor.{firstCursor, lengthStep, cursorEnded, consed, onStep}
+use Rattle.lengths.specs.Cursor.{lengthsLeft}
 use Rattle.lengths.proofs.CursorLaws.{lengthsLeft-first}
 
 -- ---- One length more

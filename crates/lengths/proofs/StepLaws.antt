@@ -8,7 +8,7 @@ use mathlib.Core.List.{List}
 use lib.ListN.{length, getD}
 use lib.Dec.{leb, ltb, eqb}
 use borrow.Author.Tests.{lt-ltb, le-ltb, le-leb, lt-leb, eq-eqb, ne-eqb, ltb-false, eqb-false}
-use Rattle.base.specs.Scan.{Scan, found, refused, checked, andThen}
+use Rattle.base.specs.Answer.{Scan, found, refused, checked, andThen}
 use Rattle.base.proofs.ListLaws.{by-test}
 use Rattle.base.proofs.Tests.{or-neither}
 use Rattle.dna.specs.Sizes.{maxReadLength, inWords, lengthInvalid}
@@ -20,21 +20,9 @@ use Rattle.lengths.specs.declared.SizeRead.{SizeRead}
 use Rattle.lengths.specs.declared.SizeRead.the-variants as reads
 use Rattle.lengths.specs.declared.LengthStep.{LengthStep}
 use Rattle.lengths.specs.declared.LengthStep.the-variants as steps
-use Rattle.lengths.specs.Cursor.{
-  flagsTaken,
-  storedLength,
-  wordsRead,
-  wordsFrom,
-  storedRead,
-  sizeAt,
-  cursorAfter,
-  lengthOrRefused,
-  stepOfSize,
-  flaggedStep,
-  stepOfFlags,
-  lengthStep,
-  cursorEnded,
-}
+use Rattle.lengths.specs.Cursor.{flagsTaken, storedLength, wordsRead, wordsFrom, storedRead}
+use Rattle.lengths.specs.Cursor.{sizeAt, cursorAfter, lengthOrRefused, stepOfSize}
+use Rattle.lengths.specs.Cursor.{flaggedStep, stepOfFlags, lengthStep, cursorEnded}
 
 -- ---- The end
 
@@ -100,14 +88,14 @@ module _ (section : List ℕ) (cursor : SizeCursor) where
   unfolding storedAt checked storedRead
   size-cut s b h =
       size-bits section cursor false true (lt-leb 128 _ s) (le-leb 128 _ b)
-      ∙ rw (le-leb (length section) (cursor .at) h)
+      ∙ rw (lt-ltb (length section) (cursor .at + 1) (omega arith))
 
   pub size-byte : cursor .same < 128 → 128 ≤ cursor .sizes → cursor .at < length section
       → sizeAt section cursor ≡ reads.Found (getD section (cursor .at) 0) (cursor .at + 1)
   unfolding storedAt checked storedRead storedLength
   size-byte s b h =
       size-bits section cursor false true (lt-leb 128 _ s) (le-leb 128 _ b)
-      ∙ rw (lt-leb (length section) (cursor .at) h)
+      ∙ rw (le-ltb (length section) (cursor .at + 1) (omega arith))
 
 -- ---- A step
 

@@ -3,29 +3,27 @@ use mathlib.Core.Path.{_≡_, refl, sym, ap, _∙_}
 use Prim.Native.Nat.{ℕ, zero, suc, _+_, _-_, _/_, _≤_, _<_}
 use native.Mathlib.Omega.{arith}
 use mathlib.Core.Bool.{Bool, true, false, cond, _||_}
-use mathlib.Core.List.{List, [], _∷_}
+use mathlib.Core.List.{List}
 use lib.ListN.{length}
 use lib.Dec.{leb, ltb, eqb}
 use borrow.Author.Tests.{lt-ltb, le-ltb, le-leb, lt-leb, eq-eqb, ne-eqb}
 use Rattle.base.specs.Lists.{any}
 use Rattle.base.specs.Numbers.{le}
 use Rattle.base.specs.Faults.{Fault}
-use Rattle.base.specs.Scan.{Scan, found, refused, checked, andThen}
-use Rattle.base.proofs.ListLaws.{by-order, by-test}
+use Rattle.base.specs.Answer.{Scan, found, refused, checked, andThen}
+use Rattle.base.proofs.ListLaws.{by-order}
 use Rattle.base.proofs.Tests.{or-right, neither-or}
-use Rattle.base.proofs.ScanLaws.{cond-yes, cond-no}
-use Rattle.dna.specs.RecordAt.{varint16At}
+use Rattle.base.proofs.AnswerLaws.{checked-into, cond-yes, cond-no}
+use Rattle.dna.specs.Varint16At.{varint16At}
 use Rattle.lengths.specs.declared.SizeRead.{SizeRead}
 use Rattle.lengths.specs.declared.SizeRead.the-variants as reads
 use Rattle.lengths.specs.Cursor.{wordsRead}
 
 read-checked : (sum : ℕ) (faults : List Fault) (scan : Scan ℕ)
-    → wordsRead sum (checked faults scan) ≡ cond (any (λ f. f .fits) faults) reads.Refused
+    → wordsRead sum (checked refused faults scan) ≡ cond (any (λ f. f .fits) faults) reads.Refused
     (wordsRead sum scan)
-unfolding wordsRead checked any
-read-checked sum [] scan = refl
-read-checked sum (f ∷ faults) scan =
-    by-test (f .fits) (λ t. rw t) (λ t. rw t (read-checked sum faults scan))
+unfolding wordsRead
+read-checked sum faults scan = checked-into (wordsRead sum) (λ n. n) reads.Refused (λ n. refl) faults scan
 
 read-more : (sum : ℕ) (scan : Scan ℕ)
     → wordsRead sum (andThen scan (λ more next. found (32768 + more) next)) ≡ wordsRead

@@ -6,9 +6,9 @@ use mathlib.Core.List.{List, [], _∷_}
 use mathlib.Core.Option.{Option, none, some}
 use lib.ListN.{length, getD}
 use lib.Dec.{leb, ltb, eqb}
-use Rattle.base.specs.Scan.{Scan, found, refused}
+use Rattle.base.specs.Answer.{Scan, found, refused}
 use Rattle.dna.specs.Sizes.{maxReadLength, StoredSize, same, inByte, inWords, lengthInvalid}
-use Rattle.dna.specs.RecordAt.{varint16At, wordsFor}
+use Rattle.dna.specs.Varint16At.{varint16At, wordsFor}
 use Rattle.dna.specs.SizesAt.{storedAt}
 use Rattle.lengths.specs.declared.SizeCursor.{SizeCursor}
 use Rattle.lengths.specs.declared.FlagStep.{FlagStep}

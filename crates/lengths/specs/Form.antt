@@ -6,7 +6,7 @@ use mathlib.Core.List.{List, [], _∷_}
 use lib.ListN.{length, getD}
 use Rattle.base.specs.Lists.{stepsFrom}
 use Rattle.dna.specs.Sizes.{StoredSize, inWords, isSame, isInByte, storedBytes}
-use Rattle.format.specs.FixedRule.{storedFrom}
+use Rattle.format.specs.RuleBlock.{storedFrom}
 use Rattle.lengths.specs.declared.write.GroupWriter.{GroupWriter}
 
 -- The stored sizes of reads that end at these places.

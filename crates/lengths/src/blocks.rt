@@ -1,11 +1,10 @@
 // The lengths of a block whose header earns none of 2 to 8, as every `requires` here says.
 use header::fields::l_read;
-use header::fields::n_reads;
 use header::fields::raw_dna_size;
+use header::fields::read_count;
 use header::fields::same_length;
 use header::sections::SIZE_SECTION;
 use header::sections::section;
-use integers::non_negative;
 ghost use mathlib.Core.Path.{_≡_};
 ghost use mathlib.Core.Bool.{false};
 ghost use Rattle.format.specs.Header.{headerOf};
@@ -20,6 +19,6 @@ pub fn lengths_fault(input: &[u8]) -> u32
 {
     let sizes = section(input, SIZE_SECTION);
     let fixed = same_length(input);
-    let reads = non_negative(n_reads(input));
+    let reads = read_count(input);
     crate::lengths_fault(sizes, fixed, l_read(input), reads, raw_dna_size(input))
 }

@@ -9,10 +9,8 @@ ghost use Prim.Native.Nat.{_+_};
 ghost use lib.ListN.{length};
 ghost use lib.Dec.{ltb};
 ghost use Rattle.base.specs.Numbers.{nonNegative};
-ghost use Rattle.dna.specs.SizesAt.{sizesAnswer};
+ghost use Rattle.dna.specs.SizesAt.{sizesAnswer, fixedLengths, lengthsGiven};
 ghost use Rattle.lengths.specs.Given.{
-  fixedLengths,
-  lengthsGiven,
   lengthsFound,
   lengthsSum,
   lengthsNumber,

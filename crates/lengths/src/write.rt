@@ -1,7 +1,7 @@
 // Writing a size section from the ends of the reads, which are lent; a length is the difference of
 // two ends. The contracts cite specs/Form.antt, specs/Sizes.antt of dna and specs/Paste.antt of
-// base. Each `requires` is one that encoding has tested before: at most 50,000 reads, and room for
-// the bytes.
+// base. Each `requires` of a public function is one that encoding has tested before: at most 50,000
+// reads, and room for the bytes.
 use super::WORD_ESCAPE;
 ghost use mathlib.Core.Path.{_≡_};
 ghost use Prim.Native.Nat.{_+_, _-_, _≤_, _<_, min};
@@ -11,7 +11,7 @@ ghost use Rattle.base.specs.Paste.{pasted};
 ghost use Rattle.dna.specs.Varint16.{varint16Bytes};
 ghost use Rattle.dna.specs.Sizes.{storedBytes, sizeGroupBytes, sizeSectionBytes};
 ghost use Rattle.format.specs.HeaderFaults.{maxReads};
-ghost use Rattle.format.specs.FixedRule.{allEqual};
+ghost use Rattle.format.specs.RuleBlock.{allEqual};
 ghost use Rattle.lengths.specs.Form.{
   storedOf,
   storedAfter,

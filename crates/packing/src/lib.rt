@@ -74,7 +74,8 @@ pub fn padding_is_zero4(s: &[u8], at: usize, n: usize) -> bool
 pub fn put_symbols2(codes: &[u8], out: &mut [u8], at: usize)
     requires { ⌜ Below 4 (now codes) ⌝ }
     requires { ⌜ at + packedLength 4 (length (now codes)) ≤ length (now out) ⌝ }
-    ensures { λ _. ⌜ now (out .exit) ≡ pasted (now (out .entry)) at (pack 4 4 (now (codes .entry))) ⌝ }
+    ensures { λ _. ⌜ now (out .exit)
+        ≡ pasted (now (out .entry)) at (pack 4 4 (now (codes .entry))) ⌝ }
 {
     let full = codes.len() / 4;
     let mut k: usize = 0;
@@ -91,7 +92,8 @@ pub fn put_symbols2(codes: &[u8], out: &mut [u8], at: usize)
 pub fn put_symbols4(codes: &[u8], out: &mut [u8], at: usize)
     requires { ⌜ Below 16 (now codes) ⌝ }
     requires { ⌜ at + packedLength 2 (length (now codes)) ≤ length (now out) ⌝ }
-    ensures { λ _. ⌜ now (out .exit) ≡ pasted (now (out .entry)) at (pack 16 2 (now (codes .entry))) ⌝ }
+    ensures { λ _. ⌜ now (out .exit)
+        ≡ pasted (now (out .entry)) at (pack 16 2 (now (codes .entry))) ⌝ }
 {
     let full = codes.len() / 2;
     let mut k: usize = 0;

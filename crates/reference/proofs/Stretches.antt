@@ -9,12 +9,8 @@ use Rattle.base.specs.Numbers.{leBytes}
 use Rattle.base.specs.Paste.{pasted}
 use Rattle.base.proofs.FilledLaws.{Filled, filled-none, filled-more, filled-next, filled-all}
 use Rattle.dna.specs.Reference.{strandBase, stretchIndex, letterOfCode, stretchLetters}
-use Rattle.dna.proofs.ReferenceLaws.{
-  length-stretchLetters,
-  getD-stretchLetters,
-  pieceLeftmost,
-  stretch-piece,
-}
+use Rattle.dna.proofs.ReferenceLaws.{length-stretchLetters, getD-stretchLetters, pieceLeftmost}
+use Rattle.dna.proofs.ReferenceLaws.{stretch-piece}
 use Rattle.reference.specs.Tables.{wordTable}
 use Rattle.reference.proofs.Words.{basesByte-whole, table-letters}
 

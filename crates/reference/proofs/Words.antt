@@ -12,16 +12,12 @@ use Rattle.base.specs.Packed.{digit, symbolAt}
 use Rattle.base.specs.Paste.{pasted}
 use Rattle.base.proofs.ListLaws.{length-build, getD-build}
 use Rattle.base.proofs.NumberLaws.{length-leBytes, leBytes-le}
-use Rattle.base.proofs.PlaceLaws.{at-self, at-same}
+use Rattle.base.proofs.AtLaws.{at-self, at-same}
 use Rattle.base.proofs.PackedLaws.{byteOf-below, byteOf-cong, digit-byteOf, byteOf-digit}
 use Rattle.base.proofs.PasteLaws.{pasted-whole}
 use Rattle.dna.specs.Reference.{referenceBase, stretchLetters}
-use Rattle.dna.proofs.ReferenceLaws.{
-  referenceBase-below,
-  length-stretchLetters,
-  stretchLetters-bytes,
-  stretchLetters-same,
-}
+use Rattle.dna.proofs.ReferenceLaws.{referenceBase-below, length-stretchLetters}
+use Rattle.dna.proofs.ReferenceLaws.{stretchLetters-bytes, stretchLetters-same}
 use Rattle.reference.specs.Stretch.{basesByte}
 use Rattle.reference.specs.Tables.{byteWord, wordTable}
 

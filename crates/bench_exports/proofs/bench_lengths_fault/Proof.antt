@@ -7,7 +7,8 @@ use mir.Val.{toZ, ofZ}
 use mir.ValLaws.{toZ-ofZ}
 use mir.Syntax.{w32}
 use Rattle.base.specs.Numbers.{nonNegative}
-use Rattle.lengths.specs.Given.{lengthsGiven, lengthsFound, lengthsNumber}
+use Rattle.dna.specs.SizesAt.{lengthsGiven}
+use Rattle.lengths.specs.Given.{lengthsFound, lengthsNumber}
 use borrow.Author.Needs.{needs}
 use Rattle.bench_exports.proofs.bench_lengths_fault.Statement.{statement}
 use Rattle.bench_exports.proofs.bench_lengths_fault.Tie as tie

@@ -3,33 +3,30 @@
 use mathlib.Core.Path.{_≡_, refl, sym, ap, ap₂, _∙_, subst}
 use Prim.Native.Nat.{ℕ, zero, suc, _+_, _≤_, _<_}
 use native.Mathlib.Omega.{arith}
-use mathlib.Core.List.{List, [], _∷_, _++_, flatten, append-nil, append-assoc}
+use mathlib.Core.List.{List, [], _∷_, _++_, flatten, flatMap, append-nil, append-assoc}
 use lib.ListN.{length, take, drop, length-append}
 use lib.Seq.{take-at, drop-at}
 use Rattle.base.specs.Lists.{AllBytes}
-use Rattle.base.proofs.ScanLaws.{cond-no}
+use Rattle.base.specs.Answer.{Answer, found, refused, andThen, refusedAs}
+use Rattle.base.proofs.AnswerLaws.{andThen-found, andThen-parts, refusedAs-found, found-refusedAs}
+use Rattle.base.proofs.AnswerLaws.{Refuses, andThen-refuses, refusedAs-refuses, refuses-too}
+use Rattle.base.proofs.AnswerLaws.{cond-no}
 use Rattle.base.proofs.ListLaws.{all-right, below-drop}
 use Rattle.dna.specs.Reference.{ReferenceFits}
+use Rattle.dna.specs.Rules.{totals}
 use Rattle.format.specs.Header.{headerOf, readCount}
 use Rattle.format.specs.Sections.{blockLength}
 use Rattle.format.specs.WellFormed.{BlockDivision, WellFormed}
-use Rattle.format.specs.Joined.{Joined, AllWellFormed, DivideBlocks, fileCounts}
-use Rattle.format.specs.Outcome.{acceptedFile, modulo64}
-use Rattle.format.specs.BlockAnswer.{BlockAnswer, accepts, refuses, blockAnswer}
-use Rattle.format.specs.FileAnswer.{
-  FileAnswer,
-  acceptsFile,
-  refusesFile,
-  afterBlock,
-  onBlock,
-  blocksAnswer,
-  fileAnswer,
-  fileOutcome,
-  validated,
-}
+use Rattle.format.specs.Joined.{Joined, AllWellFormed, DivideBlocks}
+use Rattle.format.specs.Outcome.{acceptedFile}
+use Rattle.format.specs.BlockAnswer.{blockAnswer}
+use Rattle.format.specs.FileAnswer.{BlockRefusal, inFirst, inLater, blocksAnswer, fileAnswer}
+use Rattle.format.specs.FileAnswer.{fileOutcome, validated}
+use Rattle.format.specs.Demands.{wrapped, readCounts}
 use Rattle.format.proofs.HeaderLaws.{faults-right}
 use Rattle.format.proofs.BlockLaws.{block-accepts, block-found, FirstBlock, first-block}
-use Rattle.format.proofs.AnswerNumbers.{AnswerOwn, block-own}
+use Rattle.format.proofs.AnswerNumbers.{OwnRefusal, block-own}
+use Rattle.format.proofs.CountLaws.{file-totals}
 use Rattle.format.proofs.ReadsExactly.Answers.{block-length}
 
 -- A well-formed block holds its table of contents.
@@ -38,22 +35,27 @@ block-some bases block wf = faults-right block (wf .noHeaderFault) .table
 
 -- ---- Well-formed blocks, then accepted
 
-pub step : (most bases : ℕ) (reference file : List ℕ) → 0 < length file
+-- The answer of a file that has bytes: its first block's, then that of the rest.
+abbrev onBlock : (most bases : ℕ) (reference file : List ℕ) (divided : BlockDivision) (next : ℕ) → Answer BlockRefusal (List BlockDivision)
+onBlock most bases reference file divided next =
+    andThen (refusedAs inLater (blocksAnswer most bases reference (drop next file))) (λ more end. found (divided ∷ more) (next + end))
+
+step : (most bases : ℕ) (reference file : List ℕ) → 0 < length file
     → blocksAnswer (suc most) bases reference file
-    ≡ onBlock (blockAnswer bases reference file) (blocksAnswer most bases reference (drop (blockLength (headerOf file)) file))
+    ≡ andThen (refusedAs inFirst (blockAnswer bases reference file)) (onBlock most bases reference file)
 unfolding blocksAnswer
 step most bases reference [] some = absurd (omega arith)
 step most bases reference (byte ∷ bytes) some = refl
 
-none : (most bases : ℕ) (reference : List ℕ) → blocksAnswer most bases reference [] ≡ acceptsFile []
+none : (most bases : ℕ) (reference : List ℕ) → blocksAnswer most bases reference [] ≡ found [] 0
 unfolding blocksAnswer
 none zero bases reference = refl
 none (suc most) bases reference = refl
 
 blocks-accept : (bases : ℕ) (reference : List ℕ) → ReferenceFits bases reference → (blocks : List (List ℕ)) (ds : List BlockDivision) (most : ℕ)
     → AllWellFormed bases blocks → DivideBlocks bases blocks ds → length (flatten blocks) ≤ most
-    → blocksAnswer most bases reference (flatten blocks) ≡ acceptsFile ds
-unfolding flatten onBlock afterBlock
+    → blocksAnswer most bases reference (flatten blocks) ≡ found ds (length (flatten blocks))
+unfolding flatten
 blocks-accept bases reference fits [] [] most wfs d h = none most bases reference
 blocks-accept bases reference fits [] (x ∷ ds) most wfs d h = absurd d
 blocks-accept bases reference fits (block ∷ blocks) [] most wfs d h = absurd d
@@ -63,12 +65,13 @@ blocks-accept bases reference fits (block ∷ blocks) (x ∷ ds) (suc most) wfs 
     let rest : List ℕ = flatten blocks in
     let some : 121 ≤ length block = block-some bases block (wfs .0) in
     let n : length (block ++ rest) ≡ length block + length rest = length-append block rest in
-    let size : blockLength (headerOf (block ++ rest)) ≡ length block = block-length bases block rest (wfs .0) in
-    let more : drop (blockLength (headerOf (block ++ rest))) (block ++ rest) ≡ rest =
-    ap (λ (k : ℕ). drop k (block ++ rest)) size ∙ drop-at block rest (length block) refl in
     step most bases reference (block ++ rest) (omega arith)
-    ∙ ap₂ onBlock (block-accepts bases reference block rest x fits (wfs .0) (d .0))
-    (ap (blocksAnswer most bases reference) more ∙ blocks-accept bases reference fits blocks ds most (wfs .1) (d .1) (omega arith))
+    ∙ andThen-found _ (refusedAs-found inFirst (block-accepts bases reference block rest x fits (wfs .0) (d .0)))
+    (andThen-found _
+    (refusedAs-found inLater
+    (ap (blocksAnswer most bases reference) (drop-at block rest (length block) refl)
+    ∙ blocks-accept bases reference fits blocks ds most (wfs .1) (d .1) (omega arith)))
+    (ap (found (x ∷ ds)) (sym n)))
 
 divisions-count : (bases : ℕ) (blocks : List (List ℕ)) (ds : List BlockDivision) → DivideBlocks bases blocks ds → length ds ≡ length blocks
 divisions-count bases [] [] d = refl
@@ -78,14 +81,14 @@ divisions-count bases (block ∷ blocks) (x ∷ ds) d = ap suc (divisions-count 
 
 pub file-answer : (bases : ℕ) (reference file : List ℕ) (blocks : List (List ℕ)) (ds : List BlockDivision) → ReferenceFits bases reference
     → AllWellFormed bases blocks → Joined blocks file → DivideBlocks bases blocks ds
-    → validated bases reference file ≡ acceptedFile (length blocks) (modulo64 (fileCounts reference bases ds))
+    → validated bases reference file ≡ acceptedFile (length blocks) (totals wrapped (flatMap (readCounts bases reference) ds))
 unfolding validated fileAnswer fileOutcome
 file-answer bases reference file blocks ds fits wfs j d =
-    let answer : blocksAnswer (length file) bases reference file ≡ acceptsFile ds =
-    subst (λ (f : List ℕ). blocksAnswer (length f) bases reference f ≡ acceptsFile ds) j
+    let answer : blocksAnswer (length file) bases reference file ≡ found ds (length file) =
+    subst (λ (f : List ℕ). blocksAnswer (length f) bases reference f ≡ found ds (length f)) j
     (blocks-accept bases reference fits blocks ds (length (flatten blocks)) wfs d (omega arith)) in
-    ap (fileOutcome bases reference) (cond-no (refusesFile 1 0 0) (fits .fits) answer)
-    ∙ ap (λ (n : ℕ). acceptedFile n (modulo64 (fileCounts reference bases ds))) (divisions-count bases blocks ds d)
+    ap (fileOutcome reference bases) (cond-no _ (fits .fits) answer)
+    ∙ ap₂ acceptedFile (divisions-count bases blocks ds d) (file-totals bases reference ds)
 
 -- ---- Accepted, then well-formed blocks
 
@@ -94,84 +97,96 @@ pub record FileFound (bases : ℕ) (reference file : List ℕ) : Type 0 where
   pub wellFormed : AllWellFormed bases blocks
   pub joined : Joined blocks file
 
-absurd-file {ℓ} : {X : Type ℓ} {number block read : ℕ} {ds : List BlockDivision} → refusesFile number block read ≡ acceptsFile ds → X
-absurd-file e = let z : _≡_ {A = ℕ} 0 1 = cc in absurd (omega arith)
+-- A file whose first block is accepted: that block, and what follows it.
+pub record FirstOf (bases : ℕ) (file : List ℕ) (next : ℕ) : Type 0 where
+  pub block : List ℕ
+  pub wellFormed : WellFormed bases block
+  pub begins : file ≡ block ++ drop next file
+  pub bytes : AllBytes (drop next file)
+  pub less : length (drop next file) < length file
 
-on-parts {ℓ} : {X : Type ℓ} (answer : BlockAnswer) (rest : FileAnswer) {ds : List BlockDivision} → onBlock answer rest ≡ acceptsFile ds
-    → ((divided : BlockDivision) (more : List BlockDivision) → answer ≡ accepts divided → rest ≡ acceptsFile more → X) → X
-unfolding onBlock afterBlock
-on-parts (accepts divided) (acceptsFile more) e use′ = use′ divided more refl refl
-on-parts (accepts divided) (refusesFile number block read) e use′ = absurd-file e
-on-parts (refuses number read) rest e use′ = absurd-file e
-
-blocks-found : (most bases : ℕ) (reference file : List ℕ) (ds : List BlockDivision) → AllBytes file → length file ≤ most
-    → blocksAnswer most bases reference file ≡ acceptsFile ds → FileFound bases reference file
-unfolding flatten
-blocks-found zero bases reference [] ds bytes h e = record { blocks = []; wellFormed = tt; joined = refl }
-blocks-found zero bases reference (byte ∷ rest) ds bytes h e = absurd (omega arith)
-blocks-found (suc most) bases reference [] ds bytes h e = record { blocks = []; wellFormed = tt; joined = refl }
-blocks-found (suc most) bases reference (byte ∷ tail) ds bytes h e =
-    let file : List ℕ = byte ∷ tail in
-    let n : ℕ = blockLength (headerOf file) in
-    let ih : (f : List ℕ) (more : List BlockDivision) → AllBytes f → length f ≤ most → blocksAnswer most bases reference f ≡ acceptsFile more
-    → FileFound bases reference f
-    = λ f more. blocks-found most bases reference f more in
-    on-parts (blockAnswer bases reference file) (blocksAnswer most bases reference (drop n file)) (sym (step most bases reference file (omega arith)) ∙ e)
-    (λ divided more e₁ e₂.
-    let first : FirstBlock bases file divided = first-block bases file divided bytes (block-found bases reference file divided bytes e₁) in
+pub first-of : (bases : ℕ) (reference file : List ℕ) (divided : BlockDivision) (next : ℕ) → AllBytes file
+    → blockAnswer bases reference file ≡ found divided next → FirstOf bases file next
+first-of bases reference file divided next bytes e =
+    let first : FirstBlock bases file divided next =
+    first-block bases file divided next bytes (block-found bases reference file divided next bytes e) in
     let some : 121 ≤ length (first .block) = block-some bases (first .block) (first .wellFormed) in
-    let rest : drop n file ≡ first .rest =
-    ap (drop n) (first .begins) ∙ drop-at (first .block) (first .rest) n (first .size) in
-    let size : length file ≡ length (first .block) + length (first .rest) =
-    ap length (first .begins) ∙ length-append (first .block) (first .rest) in
-    let found : FileFound bases reference (drop n file) =
-    ih (drop n file) more (below-drop file n bytes) (omega (arith, ap length rest)) e₂ in
+    let rest : drop next file ≡ first .rest =
+    ap (drop next) (first .begins) ∙ drop-at (first .block) (first .rest) next (first .size) in
     record {
-      blocks = first .block ∷ found .blocks;
-      wellFormed = (first .wellFormed, found .wellFormed);
-      joined = ap (λ (r : List ℕ). first .block ++ r) (found .joined ∙ rest) ∙ sym (first .begins);
-    })
+      block = first .block;
+      wellFormed = first .wellFormed;
+      begins = first .begins ∙ ap (λ (r : List ℕ). first .block ++ r) (sym rest);
+      bytes = below-drop file next bytes;
+      less = omega (arith, ap length (first .begins), length-append (first .block) (first .rest), ap length rest);
+    }
+
+blocks-found : (most bases : ℕ) (reference file : List ℕ) (ds : List BlockDivision) (end : ℕ) → AllBytes file → length file ≤ most
+    → blocksAnswer most bases reference file ≡ found ds end → FileFound bases reference file
+unfolding flatten
+blocks-found zero bases reference [] ds end bytes h e = record { blocks = []; wellFormed = tt; joined = refl }
+blocks-found zero bases reference (byte ∷ rest) ds end bytes h e = absurd (omega arith)
+blocks-found (suc most) bases reference [] ds end bytes h e = record { blocks = []; wellFormed = tt; joined = refl }
+blocks-found (suc most) bases reference (byte ∷ tail) ds end bytes h e =
+    let file : List ℕ = byte ∷ tail in
+    let ih : (f : List ℕ) (more : List BlockDivision) (end : ℕ) → AllBytes f → length f ≤ most
+    → blocksAnswer most bases reference f ≡ found more end → FileFound bases reference f
+    = λ f more end. blocks-found most bases reference f more end in
+    andThen-parts (refusedAs inFirst (blockAnswer bases reference file)) (onBlock most bases reference file)
+    (sym (step most bases reference file (omega arith)) ∙ e) (λ divided next e₁ e₂.
+    let first : FirstOf bases file next =
+    first-of bases reference file divided next bytes (found-refusedAs inFirst (blockAnswer bases reference file) e₁) in
+    andThen-parts (refusedAs inLater (blocksAnswer most bases reference (drop next file))) _ e₂ (λ more last e₃ e₄.
+    let rest : FileFound bases reference (drop next file) =
+    ih (drop next file) more last (first .bytes) (omega (arith, first .less))
+    (found-refusedAs inLater (blocksAnswer most bases reference (drop next file)) e₃) in
+    record {
+      blocks = first .block ∷ rest .blocks;
+      wellFormed = (first .wellFormed, rest .wellFormed);
+      joined = ap (λ (r : List ℕ). first .block ++ r) (rest .joined) ∙ sym (first .begins);
+    }))
+
+-- Every number is at least `least`.
+abbrev pub AtLeast : (least : ℕ) (refusal : BlockRefusal) → Type 0
+AtLeast least refusal = least ≤ refusal .number
+
+pub blocks-least : (least : ℕ) → least ≤ 2 → (most bases : ℕ) (reference file : List ℕ)
+    → ((input : List ℕ) → Refuses (λ refusal. least ≤ refusal .number) (blockAnswer bases reference input))
+    → Refuses (AtLeast least) (blocksAnswer most bases reference file)
+unfolding blocksAnswer inFirst inLater
+blocks-least least small zero bases reference [] own = tt
+blocks-least least small zero bases reference (byte ∷ bytes) own = small
+blocks-least least small (suc most) bases reference [] own = tt
+blocks-least least small (suc most) bases reference (byte ∷ bytes) own =
+    let file : List ℕ = byte ∷ bytes in
+    andThen-refuses (AtLeast least) (refusedAs inFirst (blockAnswer bases reference file)) (onBlock most bases reference file)
+    (refusedAs-refuses (AtLeast least) inFirst (blockAnswer bases reference file) (own file))
+    (λ divided next e.
+    andThen-refuses (AtLeast least) (refusedAs inLater (blocksAnswer most bases reference (drop next file))) _
+    (refusedAs-refuses (AtLeast least) inLater (blocksAnswer most bases reference (drop next file))
+    (blocks-least least small most bases reference (drop next file) own))
+    (λ more end f. tt))
 
 -- An outcome of 0 is an acceptance.
-zero-file : (bases : ℕ) (reference : List ℕ) (answer : FileAnswer) → ((number block read : ℕ) → answer ≡ refusesFile number block read → 1 ≤ number)
-    → fileOutcome bases reference answer .number ≡ 0 → (ds : List BlockDivision) × (answer ≡ acceptsFile ds)
+zero-file : (bases : ℕ) (reference file : List ℕ) (answer : Answer BlockRefusal (List BlockDivision)) → Refuses (AtLeast 1) answer
+    → ((ds : List BlockDivision) (end : ℕ) → answer ≡ found ds end → FileFound bases reference file)
+    → fileOutcome reference bases answer .number ≡ 0 → FileFound bases reference file
 unfolding fileOutcome
-zero-file bases reference (acceptsFile ds) own e = (ds, refl)
-zero-file bases reference (refusesFile number block read) own e = absurd (omega (arith, own number block read refl))
-
-abbrev Refuses1 : (answer : FileAnswer) → Type 0
-Refuses1 (acceptsFile ds) = Unit {0}
-Refuses1 (refusesFile number block read) = 1 ≤ number
-
-after-1 : (divided : BlockDivision) (rest : FileAnswer) → Refuses1 rest → Refuses1 (afterBlock divided rest)
-unfolding afterBlock
-after-1 divided (acceptsFile more) h = tt
-after-1 divided (refusesFile number block read) h = h
-
-on-1 : (last reads : ℕ) (answer : BlockAnswer) (rest : FileAnswer) → AnswerOwn last reads answer → Refuses1 rest → Refuses1 (onBlock answer rest)
-unfolding onBlock
-on-1 last reads (accepts divided) rest a h = after-1 divided rest h
-on-1 last reads (refuses number read) rest a h = a .least
-
-blocks-1 : (most bases : ℕ) (reference file : List ℕ) → Refuses1 (blocksAnswer most bases reference file)
-unfolding blocksAnswer
-blocks-1 zero bases reference [] = tt
-blocks-1 zero bases reference (byte ∷ bytes) = omega arith
-blocks-1 (suc most) bases reference [] = tt
-blocks-1 (suc most) bases reference (byte ∷ bytes) =
-    on-1 21 (readCount (headerOf (byte ∷ bytes))) (blockAnswer bases reference (byte ∷ bytes)) _ (block-own bases reference (byte ∷ bytes))
-    (blocks-1 most bases reference (drop (blockLength (headerOf (byte ∷ bytes))) (byte ∷ bytes)))
+zero-file bases reference file (found ds end) own h e = h ds end refl
+zero-file bases reference file (refused refusal) own h e = absurd (omega arith)
 
 pub file-found : (bases : ℕ) (reference file : List ℕ) → ReferenceFits bases reference → AllBytes file → validated bases reference file .number ≡ 0
     → FileFound bases reference file
 unfolding validated fileAnswer
 file-found bases reference file fits bytes e =
-    let same : fileAnswer bases reference file ≡ blocksAnswer (length file) bases reference file = cond-no (refusesFile 1 0 0) (fits .fits) refl in
-    let number : fileOutcome bases reference (blocksAnswer (length file) bases reference file) .number ≡ 0 =
-    ap (λ (a : FileAnswer). fileOutcome bases reference a .number) (sym same) ∙ e in
-    let d = zero-file bases reference (blocksAnswer (length file) bases reference file)
-    (λ n b r is. subst (λ (a : FileAnswer). Refuses1 a) is (blocks-1 (length file) bases reference file)) number in
-    blocks-found (length file) bases reference file (d .0) bytes (omega arith) (d .1)
+    let blocks : Answer BlockRefusal (List BlockDivision) = blocksAnswer (length file) bases reference file in
+    let same : fileAnswer bases reference file ≡ blocks = cond-no _ (fits .fits) refl in
+    zero-file bases reference file blocks
+    (blocks-least 1 (omega arith) (length file) bases reference file (λ input.
+    refuses-too (OwnRefusal 1 21 (readCount (headerOf input))) _ (blockAnswer bases reference input) (λ refusal o. o .least)
+    (block-own bases reference input)))
+    (λ ds end is. blocks-found (length file) bases reference file ds end bytes (omega arith) is)
+    (ap (λ (a : Answer BlockRefusal (List BlockDivision)). fileOutcome reference bases a .number) (sym same) ∙ e)
 
 -- The divisions that well-formed blocks have by being so.
 pub own-divisions : (bases : ℕ) (blocks : List (List ℕ)) → AllWellFormed bases blocks

@@ -2,14 +2,16 @@
 use mathlib.Core.Path.{_≡_, refl, sym, ap, ap₂, _∙_, subst}
 use Prim.Native.Nat.{ℕ, _+_, _≤_}
 use native.Mathlib.Omega.{arith}
-use mathlib.Core.List.{List, [], _∷_, _++_, flatten, flatMap, append-assoc, head-eq-of-cons-eq, tail-eq-of-cons-eq}
+use mathlib.Core.List.{List, [], _∷_, _++_, flatten, flatMap, append-assoc, head-eq-of-cons-eq}
+use mathlib.Core.List.{tail-eq-of-cons-eq}
 use lib.ListN.{length, length-append}
 use Rattle.base.specs.Lists.{All, Begins}
 use Rattle.dna.specs.Division.{Divides, SameDivision}
 use Rattle.dna.proofs.OneDivision.{one-division}
 use Rattle.format.specs.Sections.{sectionOf, dnaNumber, nNumber}
 use Rattle.format.specs.WellFormed.{BlockDivision, DividesBlock}
-use Rattle.format.specs.Joined.{Joined, AllWellFormed, CutAt, DivideBlocks, blockReads, fileReads}
+use Rattle.format.specs.Joined.{Joined, AllWellFormed, CutAt, DivideBlocks, blockReads}
+use Rattle.format.specs.Joined.{fileReads}
 use Rattle.format.specs.Demands.{Prefix}
 use Rattle.format.proofs.BlockLaws.{one-lengths}
 use Rattle.format.proofs.JudgesFiles.Blocks.{block-some, blocks-begin, one-list}

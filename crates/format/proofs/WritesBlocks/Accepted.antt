@@ -10,8 +10,8 @@ use lib.Dec.{ltb, eqb}
 use borrow.Author.Tests.{ltb-false, le-ltb, eqb-true, eq-eqb}
 use Rattle.base.specs.Lists.{any, member, total, placesFrom, stepsFrom, All}
 use Rattle.base.specs.Faults.{NoneFits}
-use Rattle.base.specs.Scan.{firstNumber}
-use Rattle.base.proofs.FaultLaws.{any-firstNumber}
+use Rattle.base.specs.Answer.{firstNumber}
+use Rattle.base.proofs.AnswerLaws.{any-firstNumber}
 use Rattle.base.proofs.GroupLaws.{length-flatten}
 use Rattle.base.proofs.StepsLaws.{length-stepsFrom, steps-of-places, last-place}
 use Rattle.base.proofs.Tests.{or-neither, neither-or, not-false, true-not, any-append}
@@ -19,17 +19,10 @@ use Rattle.dna.specs.Reference.{alphabet, referenceSizeWrong, ReferenceFits}
 use Rattle.dna.specs.Sizes.{lengthInvalid}
 use Rattle.dna.specs.Counts.{zeroCounts}
 use Rattle.format.specs.Outcome.{refusal, acceptedBlock}
-use Rattle.format.specs.EncodeAnswer.{
-  EncodeInput,
-  blockOf,
-  readCountTooLarge,
-  candidateCountWrong,
-  readEndsInvalid,
-  letterInvalid,
-  encodeFaults,
-  encodeNumber,
-  encoded,
-}
+use Rattle.format.specs.EncodeAnswer.{EncodeInput, blockOf, readCountTooLarge}
+use Rattle.format.specs.EncodeAnswer.{candidateCountWrong, readEndsInvalid, letterInvalid}
+use Rattle.format.specs.EncodeAnswer.{blockCapacityTooSmall, encodeFaults, encodeNumber}
+use Rattle.format.specs.EncodeAnswer.{encoded}
 use Rattle.format.specs.Demands.{Writable}
 use Rattle.format.proofs.WritesBlocks.Inputs.{places-of-steps, all-valid, ends-count}
 
@@ -79,7 +72,7 @@ letters-valid (read ∷ reads) h =
 
 writable-none : (bases : ℕ) (reference : List ℕ) (reads : List (List ℕ)) (input : EncodeInput) (out : List ℕ) → ReferenceFits bases reference
     → Writable reads input → length (blockOf bases reference input) ≤ length out → NoneFits (encodeFaults bases reference input (length out))
-unfolding encodeFaults any readCountTooLarge candidateCountWrong readEndsInvalid letterInvalid
+unfolding encodeFaults any readCountTooLarge candidateCountWrong readEndsInvalid letterInvalid blockCapacityTooSmall
 writable-none bases reference reads input out fits w room =
     let lengths : List ℕ = map length reads in
     let count : length (input .ends) ≡ length reads = ends-count reads input w in
@@ -154,7 +147,7 @@ valid-letters (read ∷ reads) h =
 -- An accepted input is reads within the limits, and there is room.
 pub zero-writable : (bases : ℕ) (reference : List ℕ) (input : EncodeInput) (out : List ℕ) → encoded bases reference input out .number ≡ 0
     → (reads : List (List ℕ)) × Writable reads input × (length (blockOf bases reference input) ≤ length out)
-unfolding encodeFaults any readCountTooLarge candidateCountWrong readEndsInvalid letterInvalid
+unfolding encodeFaults any readCountTooLarge candidateCountWrong readEndsInvalid letterInvalid blockCapacityTooSmall
 zero-writable bases reference input out e =
     let none : NoneFits (encodeFaults bases reference input (length out))
     = zero-none bases reference input out (encoded-zero bases reference input out e) in
@@ -163,7 +156,7 @@ zero-writable bases reference input out e =
     let f₃₁ = or-neither (candidateCountWrong input) _ (f₃₀ .1) in
     let f₃₂ = or-neither (readEndsInvalid input) _ (f₃₁ .1) in
     let f₃₃ = or-neither (letterInvalid input) _ (f₃₂ .1) in
-    let f₃₄ = or-neither (ltb (length out) (length (blockOf bases reference input))) _ (f₃₃ .1) in
+    let f₃₄ = or-neither (blockCapacityTooSmall bases reference input (length out)) _ (f₃₃ .1) in
     let lengths : List ℕ = stepsFrom 0 (input .ends) in
     let ends : (any lengthInvalid lengths ≡ false) × (not (eqb (getD (0 ∷ input .ends) (length (input .ends)) 0) (length (input .letters))) ≡ false)
     = or-neither _ _ (f₃₂ .0) in

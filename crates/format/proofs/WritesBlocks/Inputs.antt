@@ -7,15 +7,16 @@ use mathlib.Core.List.{List, [], _∷_, _++_, map, flatten, append-assoc}
 use lib.ListN.{length, getD, take, drop, length-append, length-map}
 use lib.Dec.{eqb}
 use borrow.Author.Tests.{eqb-true, eqb-false}
-use Rattle.base.specs.Lists.{build, part, any, member, indexOf, total, placesFrom, stepsFrom, All, Below}
+use Rattle.base.specs.Lists.{build, part, any, member, indexOf, total, placesFrom, stepsFrom, All}
+use Rattle.base.specs.Lists.{Below}
 use Rattle.base.proofs.ListLaws.{by-test, length-build, all-build, below-at, below-nil, below-cons}
 use Rattle.base.proofs.GroupLaws.{map-build}
-use Rattle.base.proofs.PlaceLaws.{at-middle, at-part}
+use Rattle.base.proofs.AtLaws.{at-middle, at-part}
 use Rattle.base.proofs.StepsLaws.{length-places, last-place}
 use Rattle.base.proofs.Tests.{absurd-test, or-neither, neither-or}
 use Rattle.dna.specs.Reference.{alphabet, letterOfCode}
 use Rattle.dna.specs.Sizes.{lengthInvalid}
-use Rattle.format.specs.FixedRule.{codeOfLetter}
+use Rattle.format.specs.RuleBlock.{codeOfLetter}
 use Rattle.format.specs.EncodeAnswer.{EncodeInput, readsOfInput, candidatesOf}
 use Rattle.format.specs.Demands.{LentFits, Writable, codesOf}
 use Rattle.format.proofs.WrittenRecord.{CandidateFits}

@@ -6,12 +6,8 @@ use lib.IntN.{ℤ, natAbs}
 use mir.Syntax.{w32}
 use mir.Val.{toZ, ofZ}
 use mir.ValLaws.{toZ-ofZ}
-use Rattle.base.proofs.SignedLaws.{
-  nonNegative-below,
-  natAbs-nonNegative,
-  nonNegative-fits,
-  not-below,
-}
+use Rattle.base.proofs.SignedLaws.{nonNegative-below, natAbs-nonNegative, nonNegative-fits}
+use Rattle.base.proofs.SignedLaws.{not-below}
 use Rattle.integers.proofs.non_negative.Statement.{statement}
 use Rattle.integers.proofs.non_negative.Tie as tie
 

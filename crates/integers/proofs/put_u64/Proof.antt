@@ -26,9 +26,11 @@ same-length c = search needs
 
 returns : tie.Need-returns
 returns c =
-    let a = c .before .before .before .before .before .before .before .before .before .args in
-    let low = c .before .before .before .before .before .before .put-u32 in
-    let high = c .before .before .put-u322 in
+    let second = c .before .before in
+    let first = second .before .before .before .before in
+    let a = first .before .before .before .args in
+    let low = first .put-u32 in
+    let high = second .put-u322 in
     pasted-leBytes 4 4 (a .out .now) (low .last .0) _ (a .at) _ (a .x) _ _
     (omega arith) refl refl refl (low .ensures) (high .ensures)
 

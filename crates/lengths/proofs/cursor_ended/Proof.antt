@@ -11,14 +11,15 @@ returns c =
 
 returns-2 : tie.Need-returns-2
 returns-2 c =
-    let a = c .before .before .before .before .args in
-    sym (ended-same (a .section .now) (a .cursor) (c .before .before .if1 .left) (c .if2 .taken))
+    let past = c .before .before in
+    let a = past .before .before .args in
+    sym (ended-same (a .section .now) (a .cursor) (past .if1 .left) (c .if2 .taken))
 
 returns-3 : tie.Need-returns-3
 returns-3 c =
-    let a = c .before .before .before .before .before .args in
-    sym (ended-sizes (a .section .now) (a .cursor) (c .before .before .before .if1 .left)
-    (c .before .if2 .left))
+    let past = c .before .before .before in
+    let a = past .before .before .args in
+    sym (ended-sizes (a .section .now) (a .cursor) (past .if1 .left) (c .before .if2 .left))
 
 pub cursor-ended-spec : {M : Type 1} → statement M
 cursor-ended-spec = tie.close (tie.spec returns returns-2 returns-3)

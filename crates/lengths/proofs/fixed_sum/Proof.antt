@@ -5,15 +5,8 @@ use mathlib.Core.Path.{sym, ap₂, _∙_}
 use Prim.Native.Nat.{ℕ, _*_}
 use native.Mathlib.Omega.{arith}
 use Rattle.lengths.specs.declared.LengthsSum.the-variants as sums
-use Rattle.lengths.proofs.FixedLaws.{
-  length-zero,
-  length-large,
-  length-valid,
-  fixed-filled,
-  fixed-unread,
-  fixed-invalid,
-  fixed-valid,
-}
+use Rattle.lengths.proofs.FixedLaws.{length-zero, length-large, length-valid, fixed-filled}
+use Rattle.lengths.proofs.FixedLaws.{fixed-unread, fixed-invalid, fixed-valid}
 use borrow.Author.Needs.{needs}
 use Rattle.lengths.proofs.fixed_sum.Statement.{statement}
 use Rattle.lengths.proofs.fixed_sum.Tie as tie
@@ -38,9 +31,10 @@ returns-3 c =
 
 returns-4 : tie.Need-returns-4
 returns-4 c =
-    let a = c .before .before .before .before .before .args in
+    let empty = c .before .before .before in
+    let a = empty .before .before .args in
     sym
-    (fixed-invalid (a .each) (a .reads) (a .section .now) (c .before .before .before .if1 .left)
+    (fixed-invalid (a .each) (a .reads) (a .section .now) (empty .if1 .left)
     (omega arith)
     (length-large _ (c .if4 .taken)))
 
@@ -60,12 +54,13 @@ mul-t8 c =
 
 returns-5 : tie.Need-returns-5
 returns-5 c =
-    let a = c .before .before .before .before .before .before .before .args in
+    let small = c .before .before in
+    let empty = small .before .before .before in
+    let a = empty .before .before .args in
     ap₂ (λ (n x : ℕ). sums.Found (n * x)) (c .before .wide64 .ensures .0) (c .wide642 .ensures .0)
     ∙ sym
-    (fixed-valid (a .each) (a .reads) (a .section .now)
-    (c .before .before .before .before .before .if1 .left) (omega arith)
-    (length-valid _ (c .before .before .before .if3 .left) (c .before .before .if4 .left)))
+    (fixed-valid (a .each) (a .reads) (a .section .now) (empty .if1 .left) (omega arith)
+    (length-valid _ (small .before .if3 .left) (small .if4 .left)))
 
 pub fixed-sum-spec : {M : Type 1} → statement M
 fixed-sum-spec =

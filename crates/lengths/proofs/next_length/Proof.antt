@@ -26,11 +26,11 @@ enum-told c = search needs
 
 returns-2 : tie.Need-returns-2
 returns-2 c =
-    let a = c .before .before .before .before .before .args in
-    let take-flags = c .before .before .take-flags in
+    let flags = c .before .before in
+    let a = flags .before .before .before .args in
     sym
-    (step-unflagged (a .section .now) (a .cursor) (c .before .before .before .if1 .left)
-    (sym (take-flags .ensures) ∙ c .enum-told .given .1))
+    (step-unflagged (a .section .now) (a .cursor) (flags .before .if1 .left)
+    (sym (flags .take-flags .ensures) ∙ c .enum-told .given .1))
 
 read-size-requires : tie.Need-read-size-requires
 read-size-requires c κs = search needs
@@ -43,15 +43,14 @@ enum-told-2 c = search needs
 
 returns-3 : tie.Need-returns-3
 returns-3 c =
-    let a = c .before .before .before .before .before .before .before .before .before .args in
-    let flagged = c .before .before .before .before .flagged in
-    let if1 = c .before .before .before .before .before .before .before .if1 in
-    let take-flags = c .before .before .before .before .before .before .take-flags in
-    let read-size = c .before .before .read-size in
+    let read = c .before .before in
+    let known = read .before .before in
+    let flags = known .before .before in
+    let a = flags .before .before .before .args in
     sym
-    (step-unread (a .section .now) (a .cursor) (flagged .given .0 .0) (if1 .left)
-    (sym (take-flags .ensures) ∙ flagged .given .1)
-    (sym (read-size .ensures) ∙ c .enum-told2 .given .1))
+    (step-unread (a .section .now) (a .cursor) (known .flagged .given .0 .0)
+    (flags .before .if1 .left) (sym (flags .take-flags .ensures) ∙ known .flagged .given .1)
+    (sym (read .read-size .ensures) ∙ c .enum-told2 .given .1))
 
 add-t10 : tie.Need-add-t10
 add-t10 c = search needs
@@ -68,20 +67,17 @@ length-or-refused-requires-2 c κs = search needs
 returns-4 : tie.Need-returns-4
 unfolding cursorAfter
 returns-4 c =
-    let a = c .before .before .before .before .before .before .before .before .before .before
-    .before .before .before .before .args in
-    let flagged = c .before .before .before .before .before .before .before .before .before .flagged
-    in
-    let if1 = c .before .before .before .before .before .before .before .before .before .before
-    .before .before .if1 in
-    let take-flags = c .before .before .before .before .before .before .before .before .before
-    .before .before .take-flags in
-    let read-size = c .before .before .before .before .before .before .before .read-size in
-    let size = c .before .before .before .before .before .size in
+    let made = c .before .before .before in
+    let found = made .before .before in
+    let read = found .before .before in
+    let known = read .before .before in
+    let flags = known .before .before in
+    let a = flags .before .before .before .args in
     c .length-or-refused2 .ensures
     ∙ sym
-    (step-read (a .section .now) (a .cursor) (flagged .given .0 .0) _ _ (if1 .left)
-    (sym (take-flags .ensures) ∙ flagged .given .1) (sym (read-size .ensures) ∙ size .given .1))
+    (step-read (a .section .now) (a .cursor) (known .flagged .given .0 .0) _ _
+    (flags .before .if1 .left) (sym (flags .take-flags .ensures) ∙ known .flagged .given .1)
+    (sym (read .read-size .ensures) ∙ found .size .given .1))
 
 pub next-length-spec : {M : Type 1} → statement M
 next-length-spec =

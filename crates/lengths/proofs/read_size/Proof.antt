@@ -9,29 +9,32 @@ use Rattle.lengths.proofs.read_size.Tie as tie
 
 returns : tie.Need-returns
 returns c =
-    let a = c .before .before .before .before .before .args in
-    sym (size-both (a .section .now) (a .cursor) (c .before .before .if1 .taken) (c .if2 .taken))
+    let same = c .before .before in
+    let a = same .before .before .before .args in
+    sym (size-both (a .section .now) (a .cursor) (same .if1 .taken) (c .if2 .taken))
 
 returns-2 : tie.Need-returns-2
 returns-2 c =
-    let a = c .before .before .before .before .before .args in
-    sym (size-same (a .section .now) (a .cursor) (c .before .before .if1 .taken) (c .if2 .left))
+    let same = c .before .before in
+    let a = same .before .before .before .args in
+    sym (size-same (a .section .now) (a .cursor) (same .if1 .taken) (c .if2 .left))
 
 read-words-requires : tie.Need-read-words-requires
 read-words-requires c κs = search needs
 
 returns-3 : tie.Need-returns-3
 returns-3 c =
-    let a = c .before .before .before .before .before .before .args in
+    let other = c .before .before .before in
+    let a = other .before .before .before .args in
     c .read-words .ensures
-    ∙ sym (size-words (a .section .now) (a .cursor) (c .before .before .before .if1 .left)
-    (c .before .if3 .taken))
+    ∙ sym (size-words (a .section .now) (a .cursor) (other .if1 .left) (c .before .if3 .taken))
 
 returns-4 : tie.Need-returns-4
 returns-4 c =
-    let a = c .before .before .before .before .before .before .args in
-    sym (size-cut (a .section .now) (a .cursor) (c .before .before .before .if1 .left)
-    (c .before .if3 .left) (c .if4 .taken))
+    let other = c .before .before .before in
+    let a = other .before .before .before .args in
+    sym (size-cut (a .section .now) (a .cursor) (other .if1 .left) (c .before .if3 .left)
+    (c .if4 .taken))
 
 shared-slice-read-wide16 : tie.Need-shared-slice-read-wide16
 shared-slice-read-wide16 c = search needs
@@ -47,12 +50,13 @@ add-t6 c = search needs
 
 returns-5 : tie.Need-returns-5
 returns-5 c =
-    let a = c .before .before .before .before .before .before .before .before .before .args in
+    let there = c .before .before .before in
+    let other = there .before .before .before in
+    let a = other .before .before .before .args in
     ap (λ (n : ℕ). sizes.Found n (a .cursor .at + 1))
     (c .wide32 .ensures .0 ∙ c .before .wide16 .ensures .0)
-    ∙ sym (size-byte (a .section .now) (a .cursor)
-    (c .before .before .before .before .before .before .if1 .left)
-    (c .before .before .before .before .if3 .left) (c .before .before .before .if4 .left))
+    ∙ sym (size-byte (a .section .now) (a .cursor) (other .if1 .left) (there .before .if3 .left)
+    (there .if4 .left))
 
 pub read-size-spec : {M : Type 1} → statement M
 read-size-spec =

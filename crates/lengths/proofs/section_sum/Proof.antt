@@ -8,14 +8,8 @@ use Rattle.lengths.specs.Given.{lengthsFound, lengthsSum}
 use Rattle.lengths.specs.declared.LengthStep.the-variants as steps
 use Rattle.lengths.specs.Cursor.{lengthStep, lengthsLeft}
 use Rattle.lengths.proofs.StepLaws.{step-ranged}
-use Rattle.lengths.proofs.NextLaws.{
-  sumLeft,
-  sum-first,
-  sum-refused,
-  sum-found,
-  sum-ended,
-  sum-unended,
-}
+use Rattle.lengths.proofs.NextLaws.{sumLeft, sum-first, sum-refused, sum-found, sum-ended}
+use Rattle.lengths.proofs.NextLaws.{sum-unended}
 use borrow.Author.Needs.{needs}
 use Rattle.lengths.proofs.section_sum.Statement.{statement}
 use Rattle.lengths.proofs.section_sum.Tie as tie
@@ -39,8 +33,8 @@ loop-holds c =
       omega arith,
       omega arith,
       sum-first (a .section .now) _ _ (a .reads) 0
-          (record { each = λ k h. omega (arith, c .before .shared-slice-known .given k) }) (omega arith)
-          (c .first-cursor .ensures),
+          (record { each = λ k h. omega (arith, c .before .shared-slice-known .given k) })
+          (omega arith) (c .first-cursor .ensures),
     )
 
 next-length-requires : tie.Need-next-length-requires Inv-loop μ-loop
@@ -54,27 +48,30 @@ enum-told c = search needs
 
 returns : tie.Need-returns Inv-loop μ-loop
 returns c =
-    let l = c .before .before .before .before .loop in
-    let a = c .before .before .before .before .before .before .before .args in
-    let next-length = c .before .before .next-length in
+    let next = c .before .before in
+    let turn = next .before .before in
+    let l = turn .loop in
+    let a = turn .before .before .before .args in
     sym
     (l .inv .2
     ∙ sum-refused (a .section .now) (l .cursor) (l .sum) (a .reads) (l .i)
-    (c .before .before .before .loop-test .taken)
-    (sym (next-length .ensures) ∙ c .enum-told .given .1))
+    (next .before .loop-test .taken)
+    (sym (next .next-length .ensures) ∙ c .enum-told .given .1))
 
 wide64-requires : tie.Need-wide64-requires Inv-loop μ-loop
 wide64-requires c κs = search needs
 
 add-sum : tie.Need-add-sum Inv-loop μ-loop
 add-sum c =
-    let size = c .before .before .size in
-    let a = c .before .before .before .before .before .before .before .before .before .args in
-    let l = c .before .before .before .before .before .before .loop in
-    let next-length = c .before .before .before .before .next-length in
+    let found = c .before .before in
+    let next = found .before .before in
+    let turn = next .before .before in
+    let l = turn .loop in
+    let a = turn .before .before .before .args in
+    let size = found .size in
     let range : (1 ≤ size .given .0 .0) × (size .given .0 .0 ≤ 100000) =
     step-ranged (a .section .now) (l .cursor) (size .given .0 .0) (size .given .0 .1 .0)
-    (sym (next-length .ensures) ∙ size .given .1) in
+    (sym (next .next-length .ensures) ∙ size .given .1) in
     search needs
 
 add-i : tie.Need-add-i Inv-loop μ-loop
@@ -85,20 +82,22 @@ loop-less c = search needs
 
 loop-again : tie.Need-loop-again Inv-loop μ-loop
 loop-again c =
-    let a = c .before .before .before .before .before .before .before .before .before .args in
-    let l = c .before .before .before .before .before .before .loop in
-    let size = c .before .before .size in
-    let next-length = c .before .before .before .before .next-length in
+    let found = c .before .before in
+    let next = found .before .before in
+    let turn = next .before .before in
+    let l = turn .loop in
+    let a = turn .before .before .before .args in
+    let size = found .size in
     let e : lengthStep (a .section .now) (l .cursor) ≡ steps.Found (size .given .0 .0)
     (size .given .0 .1 .0) =
-    sym (next-length .ensures) ∙ size .given .1 in
+    sym (next .next-length .ensures) ∙ size .given .1 in
     let range : (1 ≤ size .given .0 .0) × (size .given .0 .0 ≤ 100000) =
     step-ranged (a .section .now) (l .cursor) (size .given .0 .0) (size .given .0 .1 .0) e in (
       omega arith,
       omega (arith, c .wide64 .ensures .0),
       l .inv .2
           ∙ sum-found (a .section .now) (l .cursor) (l .sum) (a .reads) (l .i) (size .given .0 .0)
-          (size .given .0 .1 .0) (c .before .before .before .before .before .loop-test .taken) e
+          (size .given .0 .1 .0) (next .before .loop-test .taken) e
           ∙ ap
           (λ (n : ℕ).
           sumLeft (l .sum + n)
@@ -111,8 +110,9 @@ cursor-ended-requires c κs = search needs
 
 returns-2 : tie.Need-returns-2 Inv-loop μ-loop
 returns-2 c =
-    let l = c .before .before .before .loop in
-    let a = c .before .before .before .before .before .before .args in
+    let turn = c .before .before .before in
+    let l = turn .loop in
+    let a = turn .before .before .before .args in
     sym
     (l .inv .2
     ∙ sum-ended (a .section .now) (l .cursor) (l .sum) (a .reads) (l .i)
@@ -121,8 +121,9 @@ returns-2 c =
 
 returns-3 : tie.Need-returns-3 Inv-loop μ-loop
 returns-3 c =
-    let l = c .before .before .before .loop in
-    let a = c .before .before .before .before .before .before .args in
+    let turn = c .before .before .before in
+    let l = turn .loop in
+    let a = turn .before .before .before .args in
     sym
     (l .inv .2
     ∙ sum-unended (a .section .now) (l .cursor) (l .sum) (a .reads) (l .i)

@@ -10,6 +10,14 @@ use borrow.Author.Needs.{needs}
 use Rattle.lengths.proofs.take_flags.Statement.{statement}
 use Rattle.lengths.proofs.take_flags.Tie as tie
 
+abbrev start : (c : tie.After-cut-at) → tie.Start
+start c = c .before .before .before .before
+
+-- Both flag bytes are there.
+room : (c : tie.Else2)
+    → start (c .before) .args .cursor .at + 2 ≤ length (start (c .before) .args .section .now)
+room c = ltb-false _ _ (sym (c .before .cut-at .ensures) ∙ c .if2 .left)
+
 returns : tie.Need-returns
 unfolding flagsTaken
 returns c = simp (ne-eqb _ _ (c .if1 .taken))
@@ -27,44 +35,25 @@ returns-2 c =
     )
 
 add-t7 : tie.Need-add-t7
-add-t7 c =
-    let a = c .before .before .before .before .before .args in
-    let h : a .cursor .at + 2 ≤ length (a .section .now) = ltb-false _ _
-    (sym (c .before .cut-at .ensures) ∙ c .if2 .left) in
-    search needs
+add-t7 c = let h = room c in search needs
 
 shared-slice-read-t4 : tie.Need-shared-slice-read-t4
-shared-slice-read-t4 c =
-    let a = c .before .before .before .before .before .before .args in
-    let cut-at = c .before .before .cut-at in
-    let h : a .cursor .at + 2 ≤ length (a .section .now) = ltb-false _ _
-    (sym (cut-at .ensures) ∙ c .before .if2 .left) in
-    search needs
+shared-slice-read-t4 c = let h = room (c .before) in search needs
 
 add-t9 : tie.Need-add-t9
-add-t9 c =
-    let a = c .before .before .before .before .before .before .args in
-    let cut-at = c .before .before .cut-at in
-    let h : a .cursor .at + 2 ≤ length (a .section .now) = ltb-false _ _
-    (sym (cut-at .ensures) ∙ c .before .if2 .left) in
-    search needs
+add-t9 c = let h = room (c .before) in search needs
 
 shared-slice-read-t11 : tie.Need-shared-slice-read-t11
-shared-slice-read-t11 c =
-    let a = c .before .before .before .before .before .before .before .args in
-    let cut-at = c .before .before .before .cut-at in
-    let h : a .cursor .at + 2 ≤ length (a .section .now) = ltb-false _ _
-    (sym (cut-at .ensures) ∙ c .before .before .if2 .left) in
-    search needs
+shared-slice-read-t11 c = let h = room (c .before .before) in search needs
 
 returns-3 : tie.Need-returns-3
 unfolding flagsTaken
 returns-3 c =
-    let cut-at = c .before .before .before .cut-at in
+    let there = c .before .before in
     simp (
-      eq-eqb _ _ (c .before .before .before .before .if1 .left),
-      sym (cut-at .ensures)
-          ∙ c .before .before .if2 .left,
+      eq-eqb _ _ (there .before .before .if1 .left),
+      sym (there .before .cut-at .ensures)
+          ∙ there .if2 .left,
     )
 
 pub take-flags-spec : {M : Type 1} → statement M

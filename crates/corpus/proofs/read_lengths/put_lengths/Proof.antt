@@ -29,11 +29,8 @@ l-read-requires c κs = table-there (c .before)
 first-cursor-requires : tie.Need-first-cursor-requires
 first-cursor-requires c κs = search needs
 
-n-reads-requires : tie.Need-n-reads-requires
-n-reads-requires c κs = table-there (c .before .before .before)
-
-non-negative-requires : tie.Need-non-negative-requires
-non-negative-requires c κs = search needs
+read-count-requires : tie.Need-read-count-requires
+read-count-requires c κs = table-there (c .before .before .before)
 
 section-requires : tie.Need-section-requires
 section-requires c κs = search needs
@@ -57,8 +54,7 @@ put-lengths-spec =
     same-length-requires
     l-read-requires
     first-cursor-requires
-    n-reads-requires
-    non-negative-requires
+    read-count-requires
     section-requires
     summarize-requires
     put-outcome-requires

@@ -4,9 +4,8 @@ use mathlib.Core.Path.{sym, ap, _∙_}
 use mathlib.Core.Bool.{Bool}
 use borrow.Author.Needs.{needs}
 use borrow.Author.Tests.{ltb-false}
-use Rattle.base.specs.Scan.{firstNumber}
-use Rattle.format.specs.HeaderFaults.{headerTruncated, headerFaults}
-use Rattle.header.specs.TableFaults.{tableFaults}
+use Rattle.base.specs.Answer.{checked, firstNumber}
+use Rattle.format.specs.HeaderFaults.{headerTruncated, tableFaults, headerFaults}
 use Rattle.header.proofs.faults.header_fault.Statement.{statement}
 use Rattle.header.proofs.faults.header_fault.Tie as tie
 
@@ -14,7 +13,7 @@ header-truncated-requires : tie.Need-header-truncated-requires
 header-truncated-requires c κs = search needs
 
 returns : tie.Need-returns
-unfolding firstNumber headerFaults
+unfolding checked headerFaults
 returns c =
     simp (sym (c .before .header-truncated .ensures) ∙ c .if1 .taken)
 
@@ -29,7 +28,7 @@ table-fault-requires c κs =
     ltb-false _ _ (sym (c .before .before .header-truncated .ensures) ∙ c .before .if1 .left)
 
 returns-2 : tie.Need-returns-2
-unfolding firstNumber headerFaults tableFaults
+unfolding checked headerFaults tableFaults
 returns-2 c =
     let input = c .before .before .before .before .before .args .input .now in
     simp (sym (c .before .before .before .header-truncated .ensures) ∙ c .before .before .if1 .left)

@@ -2,8 +2,8 @@
 -- which row fits. Assumes nothing.
 use mathlib.Core.Path.{sym, _∙_}
 use borrow.Author.Needs.{needs}
-use Rattle.base.specs.Scan.{firstNumber}
-use Rattle.header.specs.TableFaults.{tableFaults}
+use Rattle.base.specs.Answer.{checked}
+use Rattle.format.specs.HeaderFaults.{tableFaults}
 use Rattle.header.proofs.faults.table_fault.Statement.{statement}
 use Rattle.header.proofs.faults.table_fault.Tie as tie
 
@@ -11,7 +11,7 @@ magic-wrong-requires : tie.Need-magic-wrong-requires
 magic-wrong-requires c κs = search needs
 
 returns : tie.Need-returns
-unfolding firstNumber tableFaults
+unfolding checked tableFaults
 returns c =
     simp (sym (c .before .magic-wrong .ensures) ∙ c .if1 .taken)
 
@@ -19,7 +19,7 @@ version-unsupported-requires : tie.Need-version-unsupported-requires
 version-unsupported-requires c κs = search needs
 
 returns-2 : tie.Need-returns-2
-unfolding firstNumber tableFaults
+unfolding checked tableFaults
 returns-2 c =
     let p1 = c .before .before in
     simp (
@@ -31,7 +31,7 @@ header-length-too-small-requires : tie.Need-header-length-too-small-requires
 header-length-too-small-requires c κs = search needs
 
 returns-3 : tie.Need-returns-3
-unfolding firstNumber tableFaults
+unfolding checked tableFaults
 returns-3 c =
     let p2 = c .before .before in
     let p1 = p2 .before .before in
@@ -42,7 +42,7 @@ returns-3 c =
     )
 
 returns-4 : tie.Need-returns-4
-unfolding firstNumber tableFaults
+unfolding checked tableFaults
 returns-4 c =
     let p3 = c .before in
     let p2 = p3 .before .before in
@@ -58,7 +58,7 @@ read-count-out-of-range-requires : tie.Need-read-count-out-of-range-requires
 read-count-out-of-range-requires c κs = search needs
 
 returns-5 : tie.Need-returns-5
-unfolding firstNumber tableFaults
+unfolding checked tableFaults
 returns-5 c =
     let p4 = c .before .before in
     let p3 = p4 .before in
@@ -76,7 +76,7 @@ sections-truncated-requires : tie.Need-sections-truncated-requires
 sections-truncated-requires c κs = search needs
 
 returns-6 : tie.Need-returns-6
-unfolding firstNumber tableFaults
+unfolding checked tableFaults
 returns-6 c =
     let p5 = c .before .before in
     let p4 = p5 .before .before in
@@ -93,7 +93,7 @@ returns-6 c =
     )
 
 returns-7 : tie.Need-returns-7
-unfolding firstNumber tableFaults
+unfolding checked tableFaults
 returns-7 c =
     let p5 = c .before .before in
     let p4 = p5 .before .before in

@@ -10,17 +10,17 @@ use Rattle.header.proofs.fields.read_count.Tie as tie
 n-reads-requires : tie.Need-n-reads-requires
 n-reads-requires c κs = search needs
 
-signed-size-requires : tie.Need-signed-size-requires
-signed-size-requires c κs = search needs
+non-negative-requires : tie.Need-non-negative-requires
+non-negative-requires c κs = search needs
 
 returns : tie.Need-returns
 unfolding readCount
 returns c =
     let field = c .before .n-reads in (
-      c .signed-size .ensures .0 ∙ ap nonNegative
+      c .non-negative .ensures .0 ∙ ap nonNegative
           (carried (field .result) _ (field .ok) (field .ensures)),
-      c .signed-size .ensures .1,
+      c .non-negative .ensures .1,
     )
 
 pub read-count-spec : {M : Type 1} → statement M
-read-count-spec = tie.close (tie.spec n-reads-requires signed-size-requires returns)
+read-count-spec = tie.close (tie.spec n-reads-requires non-negative-requires returns)

@@ -5,13 +5,8 @@ use native.Mathlib.Omega.{arith}
 use borrow.Author.Needs.{needs}
 use Rattle.base.specs.Paste.{pasted}
 use Rattle.header.proofs.WritingLaws.{all-left, part-next, none-left}
-use Rattle.header.proofs.WrittenLaws.{
-  written-parts,
-  length-tableParts,
-  length-lengthBytes,
-  length-countBytes,
-  length-rawBytes,
-}
+use Rattle.header.proofs.WrittenLaws.{written-parts, length-tableParts, length-lengthBytes}
+use Rattle.header.proofs.WrittenLaws.{length-countBytes, length-rawBytes}
 use Rattle.header.proofs.writing.put_header.Statement.{statement}
 use Rattle.header.proofs.writing.put_header.Tie as tie
 

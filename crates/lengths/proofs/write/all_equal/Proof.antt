@@ -6,15 +6,9 @@ use native.Mathlib.Omega.{arith}
 use mathlib.Core.Bool.{not}
 use lib.ListN.{length}
 use Rattle.base.specs.Lists.{stepsFrom}
-use Rattle.format.specs.FixedRule.{allEqual}
-use Rattle.lengths.proofs.EqualLaws.{
-  othersFrom,
-  equal-none,
-  equal-first,
-  equal-other,
-  equal-more,
-  equal-end,
-}
+use Rattle.format.specs.RuleBlock.{allEqual}
+use Rattle.lengths.proofs.EqualLaws.{othersFrom, equal-none, equal-first, equal-other}
+use Rattle.lengths.proofs.EqualLaws.{equal-more, equal-end}
 use borrow.Author.Needs.{needs}
 use Rattle.lengths.proofs.write.all_equal.Statement.{statement}
 use Rattle.lengths.proofs.write.all_equal.Tie as tie
@@ -44,9 +38,10 @@ length-at-requires-2 c κs = search needs
 
 returns-2 : tie.Need-returns-2 Inv-loop μ-loop
 returns-2 c =
-    let l = c .before .before .before .loop in
-    let a = c .before .before .before .before .before .before .before .args in
-    let length-at = c .before .before .before .before .length-at in
+    let turn = c .before .before .before in
+    let l = turn .loop in
+    let a = turn .before .before .before .before .args in
+    let length-at = turn .before .length-at in
     sym
     (l .inv
     ∙ equal-other (a .ends .now) (length-at .result) (l .i) (c .before .length-at2 .result)
@@ -61,9 +56,10 @@ loop-less c = search needs
 
 loop-again : tie.Need-loop-again Inv-loop μ-loop
 loop-again c =
-    let l = c .before .before .before .loop in
-    let a = c .before .before .before .before .before .before .before .args in
-    let length-at = c .before .before .before .before .length-at in
+    let turn = c .before .before .before in
+    let l = turn .loop in
+    let a = turn .before .before .before .before .args in
+    let length-at = turn .before .length-at in
     l .inv
     ∙ equal-more (a .ends .now) (length-at .result) (l .i) (c .before .length-at2 .result)
     (c .before .before .loop-test .taken)
@@ -71,9 +67,11 @@ loop-again c =
 
 returns-3 : tie.Need-returns-3 Inv-loop μ-loop
 returns-3 c =
-    let a = c .before .before .before .before .before .args in
-    let length-at = c .before .before .length-at in
-    sym (c .before .loop .inv ∙ equal-end (a .ends .now) (length-at .result) (c .before .loop .i)
+    let turn = c .before in
+    let a = turn .before .before .before .before .args in
+    sym
+    (turn .loop .inv
+    ∙ equal-end (a .ends .now) (turn .before .length-at .result) (turn .loop .i)
     (c .loop-test .left))
 
 pub all-equal-spec : {M : Type 1} → statement M

@@ -11,23 +11,11 @@ use Rattle.base.proofs.PastingLaws.{Pasting, pasting-start}
 use Rattle.dna.specs.Sizes.{StoredSize}
 use Rattle.lengths.specs.Form.{storedOf, storedAfter, noLength}
 use Rattle.lengths.proofs.FormLaws.{Behind, behind-start, behind-stored, behind-turn}
-use Rattle.lengths.proofs.FlagLaws.{
-  gathered,
-  gathered-none,
-  gathered-room,
-  gathered-turn,
-  gathered-bytes,
-}
-use Rattle.lengths.proofs.WritingLaws.{
-  groupLeft,
-  group-room,
-  size-room,
-  size-turn,
-  group-end,
-  write-group,
-  place-after,
-  flags-after,
-}
+use Rattle.lengths.proofs.FlagLaws.{gathered, gathered-none, gathered-room, gathered-turn}
+use Rattle.lengths.proofs.FlagLaws.{gathered-bytes}
+use Rattle.lengths.proofs.WrittenSize.{place-after, flags-after}
+use Rattle.lengths.proofs.WritingLaws.{groupLeft, group-room, size-room, size-turn}
+use Rattle.lengths.proofs.WritingLaws.{group-end, write-group}
 use borrow.Author.Needs.{needs}
 use Rattle.lengths.proofs.write.put_group.Statement.{statement}
 use Rattle.lengths.proofs.write.put_group.Tie as tie

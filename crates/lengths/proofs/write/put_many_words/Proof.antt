@@ -38,7 +38,8 @@ put-u16-requires c κs =
 
 add-place : tie.Need-add-place Inv-loop μ-loop
 add-place c =
-    let l = c .before .before .before .before .before .loop in
+    let put = c .before .before in
+    let l = put .before .before .before .loop in
     omega (arith, words-room (l .left) (l .inv .0))
 
 loop-less : tie.Need-loop-less Inv-loop μ-loop
@@ -46,10 +47,10 @@ loop-less c = search needs
 
 loop-again : tie.Need-loop-again Inv-loop μ-loop
 loop-again c =
-    let l = c .before .before .before .before .before .loop in
-    let put-u16 = c .before .before .put-u16 in (
-      words-turn (l .left) (l .inv .0) (put-u16 .last .0)
-          (c .before .before .before .before .loop-test .taken) (put-u16 .ensures),
+    let put = c .before .before in
+    let l = put .before .before .before .loop in (
+      words-turn (l .left) (l .inv .0) (put .put-u16 .last .0)
+          (put .before .before .loop-test .taken) (put .put-u16 .ensures),
       search needs,
     )
 
@@ -63,7 +64,8 @@ put-u16-requires-2 c κs =
 
 add-result : tie.Need-add-result Inv-loop μ-loop
 add-result c =
-    let l = c .before .before .before .before .before .loop in
+    let put = c .before .before in
+    let l = put .before .before .before .loop in
     omega (arith, words-room (l .left) (l .inv .0))
 
 same-length : tie.Need-same-length Inv-loop μ-loop
@@ -71,10 +73,10 @@ same-length c = search needs
 
 returns : tie.Need-returns Inv-loop μ-loop
 returns c =
-    let l = c .before .before .before .before .before .loop in
-    let put-u162 = c .before .before .put-u162 in
-    words-end (l .left) (l .inv .0) (put-u162 .last .0)
-    (c .before .before .before .before .loop-test .left) (put-u162 .ensures)
+    let put = c .before .before in
+    let l = put .before .before .before .loop in
+    words-end (l .left) (l .inv .0) (put .put-u162 .last .0) (put .before .before .loop-test .left)
+    (put .put-u162 .ensures)
 
 pub put-many-words-spec : {M : Type 1} → statement M
 put-many-words-spec =

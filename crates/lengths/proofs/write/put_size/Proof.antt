@@ -4,7 +4,7 @@ use Prim.Native.Nat.{_<_}
 use native.Mathlib.Omega.{arith}
 use lib.ListN.{length}
 use Rattle.lengths.proofs.FormLaws.{length-byte}
-use Rattle.lengths.proofs.WritingLaws.{write-same, write-byte, words-bytes, write-words}
+use Rattle.lengths.proofs.WrittenSize.{write-same, write-byte, words-bytes, write-words}
 use borrow.Author.Needs.{needs}
 use Rattle.lengths.proofs.write.put_size.Statement.{statement}
 use Rattle.lengths.proofs.write.put_size.Tie as tie

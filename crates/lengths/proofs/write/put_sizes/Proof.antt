@@ -32,10 +32,11 @@ loop-holds c =
 
 put-group-requires : tie.Need-put-group-requires Inv-loop μ-loop
 put-group-requires c κs =
-    let a = c .before .before .before .before .before .args in
-    let l = c .before .before .loop in (
-      (c .before .loop-test .taken, c .before .before .before .before .before .pre .0),
-      section-room (a .ends .now) (l .from) (c .before .loop-test .taken) (l .inv .0),
+    let turn = c .before .before in
+    let l = turn .loop in
+    let start = turn .before .before .before in (
+      (c .before .loop-test .taken, start .pre .0),
+      section-room (start .args .ends .now) (l .from) (c .before .loop-test .taken) (l .inv .0),
     )
 
 add-from : tie.Need-add-from Inv-loop μ-loop
@@ -46,12 +47,12 @@ loop-less c = search needs
 
 loop-again : tie.Need-loop-again Inv-loop μ-loop
 loop-again c =
-    let a = c .before .before .before .before .before .before .before .before .args in
-    let l = c .before .before .before .before .before .loop in
-    let put-group = c .before .before .put-group in (
-      section-turn (a .ends .now) (l .from) (c .before .before .before .before .loop-test .taken)
-          (l .inv .0) _ _ (put-group .ensures .0)
-          (put-group .ensures .1),
+    let put = c .before .before in
+    let turn = put .before .before .before in
+    let a = turn .before .before .before .args in
+    let l = turn .loop in (
+      section-turn (a .ends .now) (l .from) (put .before .before .loop-test .taken) (l .inv .0) _ _
+          (put .put-group .ensures .0) (put .put-group .ensures .1),
       search needs,
     )
 

@@ -3,13 +3,7 @@
 use Prim.Native.Nat.{_+_, _*_, _≤_}
 use native.Mathlib.Omega.{arith}
 use lib.ListN.{length}
-use Rattle.lengths.proofs.WrittenWords.{
-  one-room,
-  one-word,
-  few-some,
-  few-room,
-  few-words,
-}
+use Rattle.lengths.proofs.WrittenWords.{one-room, one-word, few-some, few-room, few-words}
 use borrow.Author.Needs.{needs}
 use Rattle.lengths.proofs.write.put_words.Statement.{statement}
 use Rattle.lengths.proofs.write.put_words.Tie as tie

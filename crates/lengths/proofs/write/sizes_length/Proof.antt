@@ -145,8 +145,9 @@ add-result c = search needs
 returns : tie.Need-returns Inv-loop μ-loop
 returns c =
     let last = c .before .before in
-    let l = last .before .before .before .loop in
-    let ends = last .before .before .before .before .before .args .ends .now in
+    let turn = last .before .before .before in
+    let l = turn .loop in
+    let ends = turn .before .before .args .ends .now in
     let small : getD ends (l .i) 0 < noLength =
     omega (arith, last .shared-slice-known4 .given (l .i)) in
     let size = c .before .difference3 in

@@ -12,49 +12,20 @@ use Rattle.base.specs.Numbers.{le, leBytes}
 use Rattle.base.specs.Packed.{digit, bit}
 use Rattle.base.specs.Faults.{Fault, fault, NoneFits}
 use Rattle.base.specs.Place.{At}
-use Rattle.base.specs.Scan.{found}
-use Rattle.base.proofs.PlaceLaws.{at-left, at-right, at-head, at-tail, at-to}
+use Rattle.base.specs.Answer.{found}
+use Rattle.base.proofs.AtLaws.{at-left, at-right, at-head, at-tail, at-to}
 use Rattle.base.proofs.NumberLaws.{length-leBytes, le-leBytes}
 use Rattle.base.proofs.Tests.{or-neither, neither-or, any-append}
-use Rattle.base.proofs.ScanLaws.{checked-none, andThen-found, cond-yes, cond-no}
-use Rattle.dna.specs.Record.{
-  ReadContext,
-  Entry,
-  PackedCodes,
-  RecordFields,
-  perfect,
-  global,
-  local,
-  raw,
-  raw4,
-  StoredRecord,
-  fieldWidth,
-  entryByte,
-  packedBytes,
-  flagByteOf,
-  fieldsBytes,
-  hasNList,
-  nListBytes,
-  recordBytes,
-  FieldsFit,
-  NListFits,
-  RecordFits,
-}
+use Rattle.base.proofs.AnswerLaws.{checked-none, andThen-found, cond-yes, cond-no}
+use Rattle.dna.specs.Record.{ReadContext, Entry, PackedCodes, RecordFields, perfect, global}
+use Rattle.dna.specs.Record.{local, raw, raw4, StoredRecord, fieldWidth, entryByte}
+use Rattle.dna.specs.Record.{packedBytes, flagByteOf, fieldsBytes, hasNList, nListBytes}
+use Rattle.dna.specs.Record.{recordBytes, FieldsFit, NListFits, RecordFits}
 use Rattle.dna.specs.RecordFaults.{recordFlagInvalid, nListInvalid, fieldFaults, recordFaults}
-use Rattle.dna.specs.RecordAt.{
-  entriesAt,
-  packedAt,
-  perfectAt,
-  globalAt,
-  leftPlace,
-  localAt,
-  flaggedAt,
-  judgedAt,
-  fieldsAt,
-  nListAt,
-  recordAt,
-}
-use Rattle.dna.proofs.FieldLaws.{length-entries, entriesAt-entries, packedAt-packed, nList-find}
+use Rattle.dna.specs.RecordAt.{entriesAt, packedAt, perfectAt, globalAt, leftPlace, localAt}
+use Rattle.dna.specs.RecordAt.{flaggedAt, judgedAt, fieldsAt, nListAt, recordAt}
+use Rattle.dna.proofs.FieldLaws.{length-entries, entriesAt-entries, packedAt-packed}
+use Rattle.dna.proofs.FieldLaws.{nList-find}
 
 -- ---- The parts of a record's faults
 
@@ -166,7 +137,7 @@ judged-find : (context : ReadContext) (fields : RecordFields) {list : List ℕ} 
     → judgedAt context list at fields ≡ found fields (at + length (fieldsBytes context fields))
 unfolding judgedAt any
 judged-find context fields {list} {at} none a =
-    checked-none _ _ (neither-or _ _ (le-ltb (length list) (at + length (fieldsBytes context fields)) (a .fits)) none)
+    checked-none _ _ _ (neither-or _ _ (le-ltb (length list) (at + length (fieldsBytes context fields)) (a .fits)) none)
 
 -- At a flag byte that is right.
 flag-find : (context : ReadContext) (flag : ℕ) (fields : RecordFields) {list : List ℕ} {at : ℕ} {rest : List ℕ}
@@ -178,7 +149,7 @@ flag-find context flag fields {list} {at} kind valid a is =
     let byte : getD list at 0 ≡ flag = at-head a in
     let good : recordFlagInvalid (getD list at 0) ≡ false = ap recordFlagInvalid byte ∙ (rw kind at valid) in
     cond-no _ kind
-    (checked-none _ _ (neither-or _ _ (lt-leb (length list) at (omega (arith, a .fits))) (neither-or _ _ good refl))
+    (checked-none _ _ _ (neither-or _ _ (le-ltb (length list) (at + 1) (omega (arith, a .fits))) (neither-or _ _ good refl))
     ∙ ap (judgedAt context list at) (ap (flaggedAt context list at) byte ∙ is))
 
 pub fields-find : (context : ReadContext) (fields : RecordFields) {list : List ℕ} {at : ℕ} → FieldsFit context fields
@@ -211,7 +182,7 @@ fields-find context (raw4 letters) {list} {at} fits flag none a =
 -- The N list, where there is one.
 nTail-find : (context : ReadContext) (stored : Bool) (offsets : List ℕ) {list : List ℕ} {at : ℕ} → NListFits stored offsets
     → stored && nListInvalid context offsets ≡ false → At list at (cond stored (nListBytes offsets) [])
-    → cond stored (nListAt context list at) (found [] at) ≡ found offsets (at + length (cond stored (nListBytes offsets) []))
+    → cond stored (nListAt (context .readLength) list at) (found [] at) ≡ found offsets (at + length (cond stored (nListBytes offsets) []))
 nTail-find context true offsets fits valid a = nList-find context offsets valid a
 nTail-find context false offsets fits valid a = ap₂ found (sym fits) (omega arith)
 
