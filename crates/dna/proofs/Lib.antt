@@ -24,3 +24,4 @@ pub mod StepsMean
 pub mod FirstFault
 pub mod RefusedExactly
 pub mod CountsMean
+pub mod NumbersMean

@@ -32,7 +32,7 @@ use Rattle.dna.proofs.RecordComplete.{Faultless, faults-parts, parts-fa
 
 -- ---- Each test and its rule
 
-count-holds : (context : ReadContext) (fields : RecordFields) → not (context .perfectBit) && recordFlagInvalid (flagByteOf fields) ≡ false
+pub count-holds : (context : ReadContext) (fields : RecordFields) → not (context .perfectBit) && recordFlagInvalid (flagByteOf fields) ≡ false
     → CountHolds context fields
 unfolding recordFlagInvalid flagByteOf bit digit
 count-holds context (perfect field) e = tt
@@ -49,7 +49,7 @@ count-holds context (local field entries left right clipped) e = tt
 count-holds context (raw letters) e = tt
 count-holds context (raw4 letters) e = tt
 
-clear : (s t : Bool) → t ≡ false → s && t ≡ false
+pub clear : (s t : Bool) → t ≡ false → s && t ≡ false
 clear true t e = e
 clear false t e = refl
 
@@ -78,7 +78,7 @@ local-flag n =
     (neither-or _ _ (ap (λ (t : Bool). t && eqb (f / 8) 0) five)
     (ap (λ (t : Bool). t && ltb 0 (f / 8)) (neither-or _ _ six seven)))))
 
-holds-count : (context : ReadContext) (fields : RecordFields) → CountHolds context fields
+pub holds-count : (context : ReadContext) (fields : RecordFields) → CountHolds context fields
     → not (context .perfectBit) && recordFlagInvalid (flagByteOf fields) ≡ false
 unfolding flagByteOf recordFlagInvalid bit digit
 holds-count context (perfect field) h = clear (not (context .perfectBit)) _ refl
@@ -89,19 +89,19 @@ holds-count context (local field entries left right clipped) h = clear (not (con
 holds-count context (raw letters) h = clear (not (context .perfectBit)) _ refl
 holds-count context (raw4 letters) h = clear (not (context .perfectBit)) _ refl
 
-raw-bits : (context : ReadContext) (fields : RecordFields) → rawBitStray context fields ≡ false → isAligned fields ≡ false
+pub raw-bits : (context : ReadContext) (fields : RecordFields) → rawBitStray context fields ≡ false → isAligned fields ≡ false
     → (context .forward ≡ false) × (context .incremental ≡ false)
 unfolding rawBitStray
 raw-bits context fields e is = or-neither _ _ (and-first (not (isAligned fields)) _ e (ap not is))
 
-bits-raw : (context : ReadContext) (fields : RecordFields) → (isAligned fields ≡ false → (context .forward ≡ false) × (context .incremental ≡ false))
+pub bits-raw : (context : ReadContext) (fields : RecordFields) → (isAligned fields ≡ false → (context .forward ≡ false) × (context .incremental ≡ false))
     → rawBitStray context fields ≡ false
 unfolding rawBitStray
 bits-raw context fields h =
     by-test (isAligned fields) (λ t. ap (λ (b : Bool). not b && (context .forward || context .incremental)) t)
     (λ t. ap (λ (b : Bool). not b && (context .forward || context .incremental)) t ∙ neither-or _ _ (h t .0) (h t .1))
 
-clips-hold : (context : ReadContext) (fields : RecordFields) → clipsInvalid context fields ≡ false → ClipsHold context fields
+pub clips-hold : (context : ReadContext) (fields : RecordFields) → clipsInvalid context fields ≡ false → ClipsHold context fields
 unfolding clipsInvalid
 clips-hold context (perfect field) e = tt
 clips-hold context (global field entries) e = tt
@@ -111,7 +111,7 @@ clips-hold context (local field entries left right clipped) e =
 clips-hold context (raw letters) e = tt
 clips-hold context (raw4 letters) e = tt
 
-hold-clips : (context : ReadContext) (fields : RecordFields) → ClipsHold context fields → clipsInvalid context fields ≡ false
+pub hold-clips : (context : ReadContext) (fields : RecordFields) → ClipsHold context fields → clipsInvalid context fields ≡ false
 unfolding clipsInvalid
 hold-clips context (perfect field) h = refl
 hold-clips context (global field entries) h = refl
@@ -120,12 +120,12 @@ hold-clips context (local field entries left right clipped) h =
 hold-clips context (raw letters) h = refl
 hold-clips context (raw4 letters) h = refl
 
-inside-span : (context : ReadContext) (fields : RecordFields) → spanOutside context fields ≡ false → isAligned fields ≡ true
+pub inside-span : (context : ReadContext) (fields : RecordFields) → spanOutside context fields ≡ false → isAligned fields ≡ true
     → leftmost context fields + alignedLength context fields ≤ context .referenceBases
 unfolding spanOutside
 inside-span context fields e is = ltb-false (context .referenceBases) _ (and-first (isAligned fields) _ e is)
 
-span-inside : (context : ReadContext) (fields : RecordFields)
+pub span-inside : (context : ReadContext) (fields : RecordFields)
     → (isAligned fields ≡ true → leftmost context fields + alignedLength context fields ≤ context .referenceBases)
     → spanOutside context fields ≡ false
 unfolding spanOutside
@@ -135,35 +135,35 @@ span-inside context fields h =
     (λ t. ap (λ (b : Bool). b && outside) t ∙ le-ltb (context .referenceBases) (leftmost context fields + alignedLength context fields) (h t))
     (λ t. ap (λ (b : Bool). b && outside) t)
 
-any-below : (bound : ℕ) (list : List ℕ) → any (λ x. ltb bound x) list ≡ false → Below (suc bound) list
+pub any-below : (bound : ℕ) (list : List ℕ) → any (λ x. ltb bound x) list ≡ false → Below (suc bound) list
 unfolding any
 any-below bound [] e = below-nil (suc bound)
 any-below bound (x ∷ xs) e =
     let parts = or-neither (ltb bound x) _ e in
     below-cons x xs (omega (arith, ltb-false bound x (parts .0))) (any-below bound xs (parts .1))
 
-below-any : (bound : ℕ) (list : List ℕ) → Below (suc bound) list → any (λ x. ltb bound x) list ≡ false
+pub below-any : (bound : ℕ) (list : List ℕ) → Below (suc bound) list → any (λ x. ltb bound x) list ≡ false
 unfolding any
 below-any bound [] h = refl
 below-any bound (x ∷ xs) h =
     neither-or _ _ (le-ltb bound x (omega (arith, h .each 0 (omega arith))))
     (below-any bound xs (record { each = λ k l. h .each (suc k) (omega arith) }))
 
-zero-below : (list : List ℕ) → any (λ x. not (eqb x 0)) list ≡ false → Below 1 list
+pub zero-below : (list : List ℕ) → any (λ x. not (eqb x 0)) list ≡ false → Below 1 list
 unfolding any
 zero-below [] e = below-nil 1
 zero-below (x ∷ xs) e =
     let parts = or-neither (not (eqb x 0)) _ e in
     below-cons x xs (omega (arith, eqb-true x 0 (not-false (eqb x 0) (parts .0)))) (zero-below xs (parts .1))
 
-below-zero : (list : List ℕ) → Below 1 list → any (λ x. not (eqb x 0)) list ≡ false
+pub below-zero : (list : List ℕ) → Below 1 list → any (λ x. not (eqb x 0)) list ≡ false
 unfolding any
 below-zero [] h = refl
 below-zero (x ∷ xs) h =
     neither-or _ _ (true-not (eqb x 0) (eq-eqb x 0 (omega (arith, h .each 0 (omega arith)))))
     (below-zero xs (record { each = λ k l. h .each (suc k) (omega arith) }))
 
-raw4-bit : (context : ReadContext) (fields : RecordFields) → raw4BitWrong context fields ≡ false → Raw4BitHolds context fields
+pub raw4-bit : (context : ReadContext) (fields : RecordFields) → raw4BitWrong context fields ≡ false → Raw4BitHolds context fields
 unfolding raw4BitWrong
 raw4-bit context (perfect field) e = tt
 raw4-bit context (global field entries) e = tt
@@ -171,7 +171,7 @@ raw4-bit context (local field entries left right clipped) e = tt
 raw4-bit context (raw letters) e = tt
 raw4-bit context (raw4 letters) e = beq-same (context .withN) (member 4 (letters .codes)) (not-false _ e)
 
-bit-raw4 : (context : ReadContext) (fields : RecordFields) → Raw4BitHolds context fields → raw4BitWrong context fields ≡ false
+pub bit-raw4 : (context : ReadContext) (fields : RecordFields) → Raw4BitHolds context fields → raw4BitWrong context fields ≡ false
 unfolding raw4BitWrong
 bit-raw4 context (perfect field) h = refl
 bit-raw4 context (global field entries) h = refl
@@ -180,7 +180,7 @@ bit-raw4 context (raw letters) h = refl
 bit-raw4 context (raw4 letters) h =
     true-not _ (ap (λ (t : Bool). Bool·beq t (member 4 (letters .codes))) h ∙ same-beq (member 4 (letters .codes)))
 
-nList-holds : (context : ReadContext) (offsets : List ℕ) → nListInvalid context offsets ≡ false → NListHolds (context .readLength) offsets
+pub nList-holds : (context : ReadContext) (offsets : List ℕ) → nListInvalid context offsets ≡ false → NListHolds (context .readLength) offsets
 unfolding nListInvalid nCountInvalid nPositions
 nList-holds context offsets e =
     let parts = or-neither (eqb (length offsets) 0 || ltb 31 (length offsets)) _ e in
@@ -192,7 +192,7 @@ nList-holds context offsets e =
       steps = tests-steps (context .readLength) offsets (tests .0) (tests .1);
     }
 
-holds-nList : (context : ReadContext) (offsets : List ℕ) → NListHolds (context .readLength) offsets → nListInvalid context offsets ≡ false
+pub holds-nList : (context : ReadContext) (offsets : List ℕ) → NListHolds (context .readLength) offsets → nListInvalid context offsets ≡ false
 unfolding nListInvalid nCountInvalid nPositions
 holds-nList context offsets h =
     let tests = steps-tests (context .readLength) offsets (h .steps) in

@@ -41,4 +41,4 @@ table-answered =
     (refl, (refl, (refl, (refl, (refl, (refl, (refl, (refl, (refl, tt))))))))) in
     let further : All FurtherRight furtherRows =
     (refl, (refl, (refl, (refl, (refl, (refl, (refl, (refl, (refl, (refl, after-10)))))))))) in
-    (starred, further)
+    (starred, further, λ context stored. refl)

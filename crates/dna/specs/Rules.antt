@@ -1,19 +1,26 @@
--- What the rules say (01, Records), in propositions, a field for each sentence. They hold of a
--- record, and of a group's bytes, exactly if none of 13 to 20 fits (proofs/RulesMean.antt); steps
--- hold of every division (proofs/StepsMean.antt); counts are totals (proofs/CountsMean.antt).
-use Prim.Native.Nat.{ℕ, _+_, _≤_, _<_}
+-- What the rules say (01, Records), in propositions, a field for each sentence on what is accepted.
+-- They hold of a record, and of a group's bytes, exactly if none of 13 to 20 fits
+-- (proofs/RulesMean.antt), each number by its own rule (proofs/NumbersMean.antt). Steps hold of
+-- every division (proofs/StepsMean.antt). Counts are those of what is printed, and totals
+-- (proofs/CountsMean.antt).
 use mathlib.Core.Path.{_≡_}
-use mathlib.Core.Bool.{true, false}
+use Prim.Native.Nat.{ℕ, _+_, _*_, _≤_, _<_}
+use mathlib.Core.Bool.{Bool, true, false, _&&_}
+use mathlib.Core.Logic.{_↔_}
 use mathlib.Core.List.{List, [], _∷_, _++_, map}
-use lib.ListN.{length}
-use Rattle.base.specs.Lists.{member, total, All, Below}
+use lib.ListN.{length, getD, replicate}
+use lib.Dec.{eqb}
+use Rattle.base.specs.Lists.{build, any, member, countTrue, total, All, Below}
 use Rattle.base.specs.Packed.{bit}
-use Rattle.dna.specs.Reference.{codeN}
-use Rattle.dna.specs.Record.{maxNPositions, ReadContext, RecordFields, perfect, global, local}
-use Rattle.dna.specs.Record.{raw, raw4, StoredRecord, hasNList}
-use Rattle.dna.specs.Alignment.{isAligned, entriesOf, alignedLength, leftmost, position}
-use Rattle.dna.specs.RecordFaults.{raw4Codes, paddingOf}
-use Rattle.dna.specs.Counts.{Counted}
+use Rattle.dna.specs.Reference.{strandBase, codeN, letterOfCode}
+use Rattle.dna.specs.Record.{ReadContext, RecordFields, perfect, global, local, raw, raw4}
+use Rattle.dna.specs.Record.{StoredRecord, hasNList}
+use Rattle.dna.specs.Alignment.{isAligned, entriesOf, leftOf, alignedLength, leftmost}
+use Rattle.dna.specs.Alignment.{position, referenceIndex, entryPlaces}
+use Rattle.dna.specs.Varint16.{varint16Words}
+use Rattle.dna.specs.RecordFaults.{raw4Codes, paddingOf, recordFaults}
+use Rattle.dna.specs.Letters.{recordLetters}
+use Rattle.dna.specs.Counts.{Counted, isDifference, recordCounts}
 use Rattle.dna.specs.Division.{GroupFlags, Read}
 
 -- Each offset is at least `least` (1 after the first), and the place it leads to is below the
@@ -51,25 +58,63 @@ Raw4BitHolds context (raw4 letters) = context .withN ≡ member codeN (letters .
 -- An N list has 1 to 31 positions, each later offset at least 1, all inside the read.
 pub record NListHolds (readLength : ℕ) (offsets : List ℕ) : Type 0 where
   pub some : 1 ≤ length offsets
-  pub most : length offsets ≤ maxNPositions
+  pub most : length offsets ≤ 31
   pub steps : Steps readLength 0 0 offsets
+
+-- Forward and pos_t bits of a raw kind are 0.
+abbrev pub RawBitsHold : (context : ReadContext) (fields : RecordFields) → Type 0
+RawBitsHold context fields =
+    isAligned fields ≡ false → (context .forward ≡ false) × (context .incremental ≡ false)
+
+-- The aligned stretch is inside the reference.
+abbrev pub SpanHolds : (context : ReadContext) (fields : RecordFields) → Type 0
+SpanHolds context fields =
+    isAligned fields ≡ true
+    → leftmost context fields + alignedLength context fields ≤ context .referenceBases
+
+-- Entries stand in the aligned part, each after the one before.
+abbrev pub EntriesHold : (context : ReadContext) (fields : RecordFields) → Type 0
+EntriesHold context fields =
+    Steps (alignedLength context fields) 0 0
+    (map (λ entry. entry .offset) (entriesOf fields))
 
 -- The rules of a record.
 pub record RulesHold (context : ReadContext) (stored : StoredRecord) : Type 0 where
   pub count : CountHolds context (stored .fields)
-  pub rawBits : isAligned (stored .fields) ≡ false
-      → (context .forward ≡ false) × (context .incremental ≡ false)
+  pub rawBits : RawBitsHold context (stored .fields)
   pub clips : ClipsHold context (stored .fields)
-  pub inside : isAligned (stored .fields) ≡ true
-      → leftmost context (stored .fields) + alignedLength context (stored .fields)
-      ≤ context .referenceBases
-  pub entries : Steps (alignedLength context (stored .fields)) 0 0
-      (map (λ entry. entry .offset) (entriesOf (stored .fields)))
+  pub inside : SpanHolds context (stored .fields)
+  pub entries : EntriesHold context (stored .fields)
   pub codes : Below 5 (raw4Codes (stored .fields))
   pub padding : Below 1 (paddingOf (stored .fields))
   pub raw4Bit : Raw4BitHolds context (stored .fields)
   pub nList : hasNList context (stored .fields) ≡ true
       → NListHolds (context .readLength) (stored .nOffsets)
+
+-- Whether a number fits a record.
+abbrev pub fits : (context : ReadContext) (stored : StoredRecord) (number : ℕ) → Bool
+fits context stored number =
+    any (λ f. eqb (f .number) number && f .fits) (recordFaults context stored)
+
+-- 13 to 20: each number fits exactly if its own rule does not hold.
+pub record NumbersMean (context : ReadContext) (stored : StoredRecord) : Type 0 where
+  pub thirteen : (fits context stored 13 ≡ false) ↔ RawBitsHold context (stored .fields)
+  pub fourteen : (fits context stored 14 ≡ false) ↔ CountHolds context (stored .fields)
+  pub fifteen : (fits context stored 15 ≡ false) ↔ SpanHolds context (stored .fields)
+  pub sixteen : (fits context stored 16 ≡ false) ↔ ClipsHold context (stored .fields)
+  pub seventeen : (fits context stored 17 ≡ false) ↔ EntriesHold context (stored .fields)
+  pub eighteen : (fits context stored 18 ≡ false) ↔ Below 5 (raw4Codes (stored .fields))
+  pub nineteen : (fits context stored 19 ≡ false) ↔ Below 1 (paddingOf (stored .fields))
+  pub twenty : (fits context stored 20 ≡ false)
+      ↔ (Raw4BitHolds context (stored .fields)
+      × (hasNList context (stored .fields) ≡ true
+      → NListHolds (context .readLength) (stored .nOffsets)))
+
+-- A number in words of 16 bits: 32768 as often as it fits, then one remainder below it.
+abbrev pub WordsMean : Type 0
+WordsMean =
+    (times rest : ℕ) → rest < 32768
+    → varint16Words (times * 32768 + rest) ≡ replicate times 32768 ++ (rest ∷ [])
 
 -- Bits past the last of so many reads are 0, in each of the four group bytes.
 abbrev pub BitsClear : (count byte : ℕ) → Type 0
@@ -98,6 +143,38 @@ pub record StepsHold (reads : List Read) : Type 0 where
   pub none : (before : List Read) (read : Read) (after : List Read)
       → reads ≡ before ++ (read ∷ after) → All Unplaced before
       → read .context .previousPosition ≡ 0
+
+-- What is printed at the place of entry `number`, and what the reference gives there.
+abbrev pub printedAt : (reference : List ℕ) (context : ReadContext) (stored : StoredRecord)
+    (number : ℕ) → ℕ
+printedAt reference context stored number =
+    getD (recordLetters reference context stored)
+    (leftOf (stored .fields) + getD (entryPlaces (stored .fields)) number 0) 0
+
+abbrev pub givenAt : (reference : List ℕ) (context : ReadContext) (fields : RecordFields)
+    (number : ℕ) → ℕ
+givenAt reference context fields number =
+    letterOfCode
+    (strandBase reference (context .forward)
+    (referenceIndex context fields (getD (entryPlaces fields) number 0)))
+
+-- The counts of a record that is accepted: one read, its letters, its entries, and of these the
+-- differences: what is printed there is neither N nor what the reference gives.
+pub record CountsHold (reference : List ℕ) (context : ReadContext) (stored : StoredRecord)
+    : Type 0 where
+  pub reads : recordCounts reference context stored .reads ≡ 1
+  pub letters : recordCounts reference context stored .letters
+      ≡ length (recordLetters reference context stored)
+  pub entries : recordCounts reference context stored .entries
+      ≡ length (entriesOf (stored .fields))
+  pub differences : recordCounts reference context stored .differences
+      ≡ countTrue
+      (build (length (entriesOf (stored .fields))) (isDifference reference context stored))
+  pub each : (number : ℕ) → number < length (entriesOf (stored .fields))
+      → (isDifference reference context stored number ≡ true)
+      ↔ ((printedAt reference context stored number ≡ 78 → ⊥)
+      × (printedAt reference context stored number
+      ≡ givenAt reference context (stored .fields) number → ⊥))
 
 -- Each count is the total of that count over a list, as `by` says: exact, or
 -- as a file takes it.

@@ -3,10 +3,12 @@
 use Prim.Native.Nat.{ℕ}
 use mathlib.Core.Path.{_≡_}
 use mathlib.Core.Bool.{cond}
-use mathlib.Core.List.{List, [], _∷_, _++_}
+use mathlib.Core.List.{List, [], _∷_, _++_, map}
 use lib.ListN.{length, getD, replicate}
 use lib.Dec.{eqb}
 use Rattle.base.specs.Lists.{All}
+use Rattle.dna.specs.Record.{ReadContext, StoredRecord}
+use Rattle.dna.specs.RecordFaults.{recordFaults}
 use Rattle.dna.specs.Division.{Division, divisionLetters, divisionCounts}
 use Rattle.base.specs.Answer as answer
 use Rattle.base.specs.Answer.{found}
@@ -186,6 +188,14 @@ FurtherRight row =
     (sectionWalk 12 (row .lengths) (row .nSection) (row .dna))
     ≡ row .gives
 
+-- The order of a record's numbers: 14 at the flag byte, then 13, 16, 15, 17, 18, 19; then 20, of a
+-- raw4 record's bit or of the N list.
+abbrev pub FaultsInOrder : Type 0
+FaultsInOrder =
+    (context : ReadContext) (stored : StoredRecord)
+    → map (λ f. f .number) (recordFaults context stored)
+    ≡ 14 ∷ 13 ∷ 16 ∷ 15 ∷ 17 ∷ 18 ∷ 19 ∷ 20 ∷ 20 ∷ []
+
 -- The walk answers every row of the table, and every further row, as it says.
 abbrev pub TableAnswered : Type 0
-TableAnswered = All RowAnswered rows × All FurtherRight furtherRows
+TableAnswered = All RowAnswered rows × All FurtherRight furtherRows × FaultsInOrder

@@ -19,3 +19,5 @@ pub mod WrittenBlock
 pub mod WrittenHeader
 pub mod WrittenWellFormed
 pub mod WritesBlocks
+pub mod TestsMean
+pub mod RuleMeans

@@ -25,7 +25,7 @@ use Rattle.dna.specs.Rules.{totals, exact}
 use Rattle.dna.specs.FirstFault.{DnaRefused}
 use Rattle.format.specs.Header.{headerOf, readCount}
 use Rattle.format.specs.Sections.{dnaNumber, nNumber, sectionOf}
-use Rattle.format.specs.HeaderFaults.{maxReads, headerTruncated, magicWrong}
+use Rattle.format.specs.HeaderFaults.{headerTruncated, magicWrong}
 use Rattle.format.specs.HeaderFaults.{versionUnsupported, headerLengthTooSmall}
 use Rattle.format.specs.HeaderFaults.{flagUnsupported, readCountOutOfRange, sectionsTruncated}
 use Rattle.format.specs.HeaderFaults.{headerFaults}
@@ -63,8 +63,7 @@ pub record Refusal (own : ℕ → Bool) (reads : ℕ) (outcome : Outcome) : Type
   pub no-counts : outcome .counts ≡ zeroCounts
   pub read-index : 0 < outcome .read → outcome .read < reads
 
--- A refused file: the blocks before the one that is refused, and what begins with it. (Where the
--- reference earns 1 there are none before it.)
+-- A refused file: the blocks before the one that is refused, and what begins with it.
 pub record FileRefusal (bases : ℕ) (reference file : List ℕ) (outcome : Outcome) : Type 0 where
   pub before : List (List ℕ)
   pub rest : List ℕ
@@ -264,7 +263,7 @@ pub record LentFits (input : EncodeInput) : Type 0 where
 -- The input is these reads, within the limits: at most 50,000, each of 1 to 100,000 letters of A,
 -- C, G, T, N, one after the other; with four proposals a read, whatever they say.
 pub record Writable (reads : List (List ℕ)) (input : EncodeInput) : Type 0 where
-  pub few : length reads ≤ maxReads
+  pub few : length reads ≤ 50_000
   pub lengths : All (λ read. lengthInvalid (length read) ≡ false) reads
   pub letters : All (λ read. All (λ letter. member letter alphabet ≡ true) read) reads
   pub letters-are : input .letters ≡ flatten reads

@@ -12,7 +12,7 @@ use Rattle.dna.specs.Sums.{A, C, G, T, N, reference, packed, entry, oneRead}
 use Rattle.format.specs.WellFormed.{BlockDivision, WellFormed}
 use Rattle.format.specs.Joined.{fileReads}
 use Rattle.format.specs.EncodeAnswer.{EncodeInput, blockOf}
-use Rattle.format.specs.Outcome.{refusal, acceptedBlock, acceptedFile}
+use Rattle.format.specs.Outcome.{acceptedFile}
 use Rattle.format.specs.BlockAnswer.{decoded, decodedLetters, decodedEnds, idAnswer}
 use Rattle.format.specs.FileAnswer.{validated}
 use Rattle.format.specs.RuleRecord.{Candidate, stepFits}
@@ -58,17 +58,39 @@ pub record ListingRight : Type 0 where
   pub well-formed : WellFormed 12 listingBlock
   pub id : idAnswer listingBlock ≡ 7
   pub outcome : decoded 12 reference listingBlock (replicate 6 9) (replicate 2 9)
-      ≡ acceptedBlock 132 (record { reads = 1; letters = 4; entries = 1; differences = 1 })
+      ≡ record {
+        number = 0;
+        block = 0;
+        read = 0;
+        blocks = 0;
+        bytes = 132;
+        counts = record { reads = 1; letters = 4; entries = 1; differences = 1 };
+      }
   pub letters : decodedLetters 12 reference listingBlock (replicate 6 9) (replicate 2 9)
       ≡ A ∷ C ∷ T ∷ T ∷ 9 ∷ 9 ∷ []
   pub ends : decodedEnds 12 reference listingBlock (replicate 6 9) (replicate 2 9) ≡ 4 ∷ 9 ∷ []
   pub one-block : validated 12 reference listingBlock
       ≡ acceptedFile 1 (record { reads = 1; letters = 4; entries = 1; differences = 1 })
   pub two-blocks : validated 12 reference (listingBlock ++ listingBlock)
-      ≡ acceptedFile 2 (record { reads = 2; letters = 8; entries = 2; differences = 2 })
+      ≡ record {
+        number = 0;
+        block = 0;
+        read = 0;
+        blocks = 2;
+        bytes = 0;
+        counts = record { reads = 2; letters = 8; entries = 2; differences = 2 };
+      }
   pub file-reads : fileReads reference 12 (listingDivided ∷ listingDivided ∷ [])
       ≡ (A ∷ C ∷ T ∷ T ∷ []) ∷ (A ∷ C ∷ T ∷ T ∷ []) ∷ []
-  pub left-over : decoded 12 reference leftOverBlock [] [] ≡ refusal 21 0 0
+  pub left-over : decoded 12 reference leftOverBlock [] []
+      ≡ record {
+        number = 21;
+        block = 0;
+        read = 0;
+        blocks = 0;
+        bytes = 0;
+        counts = record { reads = 0; letters = 0; entries = 0; differences = 0 };
+      }
 
 -- ---- The fixed rule
 

@@ -1,0 +1,107 @@
+-- What the writer's tests and the fixed rule say, in propositions with 01's own numbers, each number
+-- of refusal by itself (proofs/RuleMeans.antt).
+use Prim.Native.Nat.{ℕ, suc, _+_, _-_, _≤_, _<_}
+use mathlib.Core.Path.{_≡_}
+use mathlib.Core.Bool.{true, false, cond}
+use mathlib.Core.Logic.{_↔_, _⊎_}
+use mathlib.Core.List.{List, [], _∷_, _++_, map}
+use lib.ListN.{length, getD, take, drop}
+use lib.IntN.{pos}
+use lib.Dec.{eqb}
+use Rattle.base.specs.Lists.{any, member, All, stepsFrom}
+use Rattle.dna.specs.Sizes.{lengthInvalid, same, inByte, inWords}
+use Rattle.format.specs.RuleEntries.{differsAt, fillerCount}
+use Rattle.format.specs.RuleRecord.{Candidate, nOffsetsOf, candidateEntries, placeUsed}
+use Rattle.format.specs.RuleRecord.{chooseRaw4, chooseAligned, chooseRaw, choiceFor}
+use Rattle.format.specs.RuleRecord.{stepFits, clippedCodes}
+use Rattle.format.specs.RuleBlock.{storedFrom, allEqual, writtenHeader}
+use Rattle.format.specs.EncodeAnswer.{EncodeInput, readCountTooLarge}
+use Rattle.format.specs.EncodeAnswer.{candidateCountWrong, readEndsInvalid, letterInvalid}
+
+-- 30 to 33: each test fails exactly if its own sentence holds.
+pub record WriterMeans (input : EncodeInput) : Type 0 where
+  pub thirty : (readCountTooLarge input ≡ false) ↔ (length (input .ends) ≤ 50_000)
+  pub thirty-one : (candidateCountWrong input ≡ false)
+      ↔ ((length (input .positions) ≡ length (input .ends))
+      × (length (input .strands) ≡ length (input .ends))
+      × (length (input .lefts) ≡ length (input .ends))
+      × (length (input .rights) ≡ length (input .ends)))
+  pub thirty-two : (readEndsInvalid input ≡ false)
+      ↔ ((any lengthInvalid (stepsFrom 0 (input .ends)) ≡ false)
+      × (getD (0 ∷ input .ends) (length (input .ends)) 0 ≡ length (input .letters)))
+  pub thirty-three : (letterInvalid input ≡ false)
+      ↔ All (λ letter. member letter (65 ∷ 67 ∷ 71 ∷ 84 ∷ 78 ∷ []) ≡ true) (input .letters)
+
+-- The place is used exactly if strand is 1 or 2, left + right is below the length, the stretch is
+-- inside, and at most 31 entries suffice.
+pub record PlaceHolds (bases : ℕ) (reference codes : List ℕ) (candidate : Candidate)
+    : Type 0 where
+  pub strand : (candidate .strand ≡ 1) ⊎ (candidate .strand ≡ 2)
+  pub clips : candidate .left + candidate .right < length codes
+  pub inside : candidate .position + (length codes - (candidate .left + candidate .right)) ≤ bases
+  pub entries : length (candidateEntries reference codes candidate) ≤ 31
+
+-- More than 31 N: raw4; otherwise the place if it is used; if not, raw.
+pub record ChoiceHolds (bases : ℕ) (reference codes : List ℕ) (candidate : Candidate)
+    : Type 0 where
+  pub used : (placeUsed bases reference codes candidate ≡ true)
+      ↔ PlaceHolds bases reference codes candidate
+  pub raw4 : 31 < length (nOffsetsOf codes)
+      → choiceFor bases reference codes candidate ≡ chooseRaw4
+  pub aligned : length (nOffsetsOf codes) ≤ 31 → PlaceHolds bases reference codes candidate
+      → choiceFor bases reference codes candidate ≡ chooseAligned
+  pub raw : length (nOffsetsOf codes) ≤ 31
+      → (PlaceHolds bases reference codes candidate → ⊥)
+      → choiceFor bases reference codes candidate ≡ chooseRaw
+
+-- Same bit before byte-size bit before words; the first has no length before it.
+pub record SizesHold (previous size : ℕ) (rest : List ℕ) : Type 0 where
+  pub again : storedFrom true size (size ∷ rest) ≡ same ∷ storedFrom true size rest
+  pub byte : (size ≡ previous → ⊥) → size < 256
+      → storedFrom true previous (size ∷ rest) ≡ inByte size ∷ storedFrom true size rest
+  pub words : (size ≡ previous → ⊥) → 256 ≤ size
+      → storedFrom true previous (size ∷ rest) ≡ inWords size ∷ storedFrom true size rest
+  pub first-byte : size < 256
+      → storedFrom false previous (size ∷ rest) ≡ inByte size ∷ storedFrom true size rest
+  pub first-words : 256 ≤ size
+      → storedFrom false previous (size ∷ rest) ≡ inWords size ∷ storedFrom true size rest
+
+-- 0x1 is set exactly if there is a read and all are equal, and 0x4 always; l_read is then that
+-- length, else 0.
+pub record FlagsHold (id time dnaSize : ℕ) (sizes nSection lengths : List ℕ) : Type 0 where
+  pub equal : (allEqual lengths ≡ true)
+      ↔ ((0 < length lengths) × All (λ size. size ≡ getD lengths 0 0) lengths)
+  pub one-length : allEqual lengths ≡ true
+      → (writtenHeader id time dnaSize sizes nSection lengths .flags ≡ 0x5)
+      × (writtenHeader id time dnaSize sizes nSection lengths .«l_read» ≡ pos (getD lengths 0 0))
+  pub several : allEqual lengths ≡ false
+      → (writtenHeader id time dnaSize sizes nSection lengths .flags ≡ 0x4)
+      × (writtenHeader id time dnaSize sizes nSection lengths .«l_read» ≡ pos 0)
+
+pub record RuleMeans : Type 0 where
+  pub writer : (input : EncodeInput) → WriterMeans input
+  pub choice : (bases : ℕ) (reference codes : List ℕ) (candidate : Candidate)
+      → ChoiceHolds bases reference codes candidate
+  pub sizes : (previous size : ℕ) (rest : List ℕ) → SizesHold previous size rest
+  pub flags : (id time dnaSize : ℕ) (sizes nSection lengths : List ℕ)
+      → FlagsHold id time dnaSize sizes nSection lengths
+  -- pos_t is set exactly where the step is 0 to 65,535.
+  pub step : (previous position : ℕ) → (stepFits previous position ≡ true)
+      ↔ ((previous ≤ position) × (position - previous ≤ 65_535))
+  -- Letters under N aren't compared; no other entry than a difference or a filler.
+  pub differs : (expected : ℕ → ℕ) (codes : List ℕ) (k : ℕ)
+      → (differsAt expected codes k ≡ true)
+      ↔ ((getD codes k 0 ≡ 4 → ⊥) × (getD codes k 0 ≡ expected k → ⊥))
+  -- Fillers until 63 or less remains.
+  pub none : (gap : ℕ) → gap ≤ 63 → fillerCount gap ≡ 0
+  pub more : (gap : ℕ) → 63 < gap → fillerCount gap ≡ suc (fillerCount (gap - 63))
+  -- Letters under N are stored as A in the ends.
+  pub ends : (codes : List ℕ) (candidate : Candidate)
+      → candidate .left + candidate .right < length codes
+      → clippedCodes codes candidate
+      ≡ map (λ code. cond (eqb code 4) 0 code)
+      (take (candidate .left) codes ++ drop (length codes - candidate .right) codes)
+  -- b_id and c_time are given.
+  pub given : (id time dnaSize : ℕ) (sizes nSection lengths : List ℕ)
+      → (writtenHeader id time dnaSize sizes nSection lengths .«b_id» ≡ id)
+      × (writtenHeader id time dnaSize sizes nSection lengths .«c_time» ≡ time)
