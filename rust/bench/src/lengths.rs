@@ -1,15 +1,20 @@
-//! Measures the proved walk over the lengths of a block's reads against a plain loop over the same bytes. Both, and
-//! the proved writer of a size section against a plain one, are compared before anything is timed.
+//! Measures the proved walk over the lengths of a block's reads against a plain loop over the same bytes. Both are
+//! compared before anything is timed.
+use crate::sizes::section;
 use crate::{row, timed, Random};
 use std::hint::black_box;
 use std::time::Duration;
 
 /// More than for the letters, since a pass is shorter.
-const PASSES: usize = 1001;
+pub const PASSES: usize = 1001;
 
-/// The reads of one section in each column. All columns walk the same reads, cut into sections of that many.
-const COLUMNS: [usize; 4] = [6_250, 12_500, 25_000, 50_000];
-const READS: usize = 50_000;
+/// The reads of one section in each column. All columns have the same reads, cut into sections of that many.
+pub const COLUMNS: [usize; 4] = [6_250, 12_500, 25_000, 50_000];
+pub const READS: usize = 50_000;
+
+/// The head of a table with these columns.
+pub const HEAD: &str =
+    "| | 6,250 reads | 12,500 reads | 25,000 reads | 50,000 reads |\n|---|---|---|---|---|";
 const MAX_READ_LENGTH: u32 = 100_000;
 const WORD_ESCAPE: u32 = 32768;
 
@@ -26,43 +31,12 @@ mod proved {
             reads: u32,
             raw: u32,
         ) -> u32;
-        pub fn bench_sizes_length(ends: *const u32, ends_length: usize) -> usize;
-        pub fn bench_put_sizes(
-            ends: *const u32,
-            ends_length: usize,
-            out: *mut u8,
-            out_length: usize,
-            at: usize,
-        ) -> usize;
     }
 }
 
 fn proved_walk(section: &[u8], reads: u32, raw: u32) -> u32 {
     // SAFETY: the pointer and the length are those of the slice.
     unsafe { proved::bench_lengths_fault(section.as_ptr(), section.len(), false, 0, reads, raw) }
-}
-
-/// The section by the proved code, checked to lie alone between the bytes around it.
-fn proved_section(lengths: &[u32]) -> Vec<u8> {
-    assert!(lengths.len() <= READS);
-    let mut sum = 0;
-    let ends: Vec<u32> = lengths
-        .iter()
-        .map(|length| {
-            sum += length;
-            sum
-        })
-        .collect();
-    // SAFETY: pointers and lengths are those of the slices; there are at most 50,000 reads, and `out` has room for
-    // the bytes of the section from 8 on.
-    unsafe {
-        let bytes = proved::bench_sizes_length(ends.as_ptr(), ends.len());
-        let mut out = vec![b'.'; bytes + 16];
-        let next =
-            proved::bench_put_sizes(ends.as_ptr(), ends.len(), out.as_mut_ptr(), out.len(), 8);
-        assert!(next == 8 + bytes && out[..8] == [b'.'; 8] && out[next..] == [b'.'; 8]);
-        out[8..next].to_vec()
-    }
 }
 
 /// A read a turn.
@@ -125,29 +99,37 @@ fn plain_walk(section: &[u8], reads: u32, raw: u32) -> u32 {
     }
 }
 
-/// The section by plain Rust; no length is 0.
-fn plain_section(lengths: &[u32]) -> Vec<u8> {
-    let mut section = Vec::new();
-    let mut previous = 0;
-    for group in lengths.chunks(8) {
-        let flags = section.len();
-        section.extend([0, 0]);
-        for (k, &length) in group.iter().enumerate() {
-            if length == previous {
-                section[flags] |= 128 >> k;
-            } else if length < 256 {
-                section[flags + 1] |= 128 >> k;
-                section.push(length as u8);
-            } else {
-                for _ in 0..length / WORD_ESCAPE {
-                    section.extend((WORD_ESCAPE as u16).to_le_bytes());
-                }
-                section.extend(((length % WORD_ESCAPE) as u16).to_le_bytes());
-            }
-            previous = length;
+/// Reads of one kind, by their lengths.
+pub struct Kind {
+    pub title: &'static str,
+    /// Where next to nothing is stored, time is by the read.
+    by_byte: bool,
+    pub lengths: Vec<u32>,
+}
+
+impl Kind {
+    pub fn all(random: &mut Random) -> [Kind; 3] {
+        let any = (0..READS).map(|_| 1 + random.below(MAX_READ_LENGTH as usize) as u32).collect();
+        [
+            ("5 and 300 in turn", true, (0..READS).map(|i| [5, 300][i % 2]).collect()),
+            ("random, 1 to 100,000", true, any),
+            ("all as the first", false, vec![150; READS]),
+        ]
+        .map(|(title, by_byte, lengths)| Kind { title, by_byte, lengths })
+    }
+
+    pub fn unit(&self) -> &'static str {
+        if self.by_byte {
+            "byte"
+        } else {
+            "read"
         }
     }
-    section
+
+    /// By how many the time of a column is divided, whose sections take so many bytes.
+    pub fn units(&self, bytes: usize) -> f64 {
+        (if self.by_byte { bytes } else { READS }) as f64
+    }
 }
 
 /// Small sections, each with every byte changed to every value, and cut at every place: both walks agree.
@@ -155,8 +137,7 @@ fn compare_small(random: &mut Random) {
     let sizes = [5, 255, 256, 32_767, 32_768, 65_536, 100_000];
     for reads in 0..=20 {
         let lengths: Vec<u32> = (0..reads).map(|_| sizes[random.below(sizes.len())]).collect();
-        let section = proved_section(&lengths);
-        assert!(section == plain_section(&lengths), "{lengths:?}: sections differ");
+        let section = section(&lengths);
         let raw = lengths.iter().sum();
         let same = |bytes: &[u8]| {
             let numbers =
@@ -181,10 +162,9 @@ struct Section {
     raw: u32,
 }
 
-/// The section of some reads, on which the writers agree, and both walks with what it holds.
+/// The section of some reads: both walks agree with what it holds.
 fn compare(title: &str, lengths: &[u32]) -> Section {
-    let bytes = proved_section(lengths);
-    assert!(bytes == plain_section(lengths), "{title}: sections differ");
+    let bytes = section(lengths);
     let (reads, raw) = (lengths.len() as u32, lengths.iter().sum());
     for walk in [proved_walk, plain_walk] as [Walk; 2] {
         assert!(walk(&bytes, reads, raw) == 0, "{title}: not accepted");
@@ -217,46 +197,37 @@ fn measure(columns: &[Vec<Section>]) -> Vec<[f64; 2]> {
     best.into_iter().map(|times| times.map(|time| time.as_secs_f64())).collect()
 }
 
-pub fn print_table(random: &mut Random) {
+pub fn print_table(kinds: &[Kind], random: &mut Random) {
     compare_small(random);
-    let any = (0..READS).map(|_| 1 + random.below(MAX_READ_LENGTH as usize) as u32).collect();
-    // Where next to nothing is stored, time is by the read.
-    let works: [(&str, bool, Vec<u32>); 3] = [
-        ("5 and 300 in turn", true, (0..READS).map(|i| [5, 300][i % 2]).collect()),
-        ("random, 1 to 100,000", true, any),
-        ("all as the first", false, vec![150; READS]),
-    ];
-    let columns: Vec<Vec<Section>> = works
+    let columns: Vec<Vec<Section>> = kinds
         .iter()
-        .flat_map(|(title, _, lengths)| COLUMNS.map(|reads| (title, lengths.chunks(reads))))
+        .flat_map(|kind| COLUMNS.map(|reads| (kind.title, kind.lengths.chunks(reads))))
         .map(|(title, sections)| sections.map(|lengths| compare(title, lengths)).collect())
         .collect();
     let times = measure(&columns);
-    let of_work = |work: usize| work * COLUMNS.len()..(work + 1) * COLUMNS.len();
-    println!("| | 6,250 reads | 12,500 reads | 25,000 reads | 50,000 reads |");
-    println!("|---|{}", "---|".repeat(COLUMNS.len()));
-    for (work, (title, by_byte, _)) in works.iter().enumerate() {
-        let unit = if *by_byte { "byte" } else { "read" };
+    let of_kind = |kind: usize| kind * COLUMNS.len()..(kind + 1) * COLUMNS.len();
+    println!("{HEAD}");
+    for (number, kind) in kinds.iter().enumerate() {
         for (way, name) in ["proved", "plain loop"].iter().enumerate() {
             let each = |column: usize| {
-                let bytes: usize = columns[column].iter().map(|section| section.bytes.len()).sum();
-                times[column][way] / (if *by_byte { bytes } else { READS }) as f64
+                let bytes = columns[column].iter().map(|section| section.bytes.len()).sum();
+                times[column][way] / kind.units(bytes)
             };
-            let first = each(of_work(work).start);
+            let first = each(of_kind(number).start);
             row(
-                &format!("{title}, time of a {unit}, {name}"),
-                of_work(work).map(|column| each(column) / first),
+                &format!("{}, time of a {}, {name}", kind.title, kind.unit()),
+                of_kind(number).map(|column| each(column) / first),
             );
         }
         row(
-            &format!("{title}, speed, proved to plain loop"),
-            of_work(work).map(|column| times[column][1] / times[column][0]),
+            &format!("{}, speed, proved to plain loop", kind.title),
+            of_kind(number).map(|column| times[column][1] / times[column][0]),
         );
     }
-    for work in [0, 1] {
+    for number in [0, 1] {
         row(
-            &format!("{}, time of a read, proved, to one as the first", works[work].0),
-            of_work(work).zip(of_work(2)).map(|(column, same)| times[column][0] / times[same][0]),
+            &format!("{}, time of a read, proved, to one as the first", kinds[number].title),
+            of_kind(number).zip(of_kind(2)).map(|(column, same)| times[column][0] / times[same][0]),
         );
     }
 }

@@ -1,7 +1,9 @@
 //! Measures the proved writers of a stretch against a plain loop, the best unsafe Rust that we can write and a
 //! memory copy of the same letters. All are compared for equality before anything is timed. The table is of
-//! speeds, as ratios: the plain loop is 1. A second table is of the walk over the lengths of reads (lengths.rs).
+//! speeds, as ratios: the plain loop is 1. A second table is of the walk over the lengths of reads (lengths.rs), a
+//! third of the encoder of a size section (sizes.rs).
 mod lengths;
+mod sizes;
 mod writers;
 
 use std::hint::black_box;
@@ -179,6 +181,9 @@ fn main() {
             times.iter().map(|time| time[2] / time[1]),
         );
     }
+    let kinds = lengths::Kind::all(random);
     println!();
-    lengths::print_table(random);
+    lengths::print_table(&kinds, random);
+    println!();
+    sizes::print_table(&kinds, random);
 }
