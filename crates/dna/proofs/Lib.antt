@@ -25,3 +25,4 @@ pub mod FirstFault
 pub mod RefusedExactly
 pub mod CountsMean
 pub mod NumbersMean
+pub mod WordsAt

@@ -111,22 +111,22 @@ local-read context field entries left right clipped {list} {at} fits a =
 
 -- ---- What a flag byte leads to
 
-flag-global : (context : ReadContext) (list : List ℕ) (at n : ℕ) → flaggedAt context list at (n * 8 + 4) ≡ globalAt context list at n
+pub flag-global : (context : ReadContext) (list : List ℕ) (at n : ℕ) → flaggedAt context list at (n * 8 + 4) ≡ globalAt context list at n
 unfolding flaggedAt bit digit
 flag-global context list at n =
     rw (eq-eqb ((n * 8 + 4) / 4 % 2) 1 (omega arith)) (ap (globalAt context list at) (omega arith))
 
-flag-local : (context : ReadContext) (list : List ℕ) (at n : ℕ) → flaggedAt context list at (n * 8) ≡ localAt context list at n
+pub flag-local : (context : ReadContext) (list : List ℕ) (at n : ℕ) → flaggedAt context list at (n * 8) ≡ localAt context list at n
 unfolding flaggedAt bit digit
 flag-local context list at n =
     rw (ne-eqb (n * 8 / 4 % 2) 1 (omega arith), ne-eqb (n * 8 / 2 % 2) 1 (omega arith), ne-eqb (n * 8 / 1 % 2) 1 (omega arith))
     (ap (localAt context list at) (omega arith))
 
-flag-raw : (context : ReadContext) (list : List ℕ) (at : ℕ) → flaggedAt context list at 2 ≡ raw (packedAt 4 4 list (at + 1) (context .readLength))
+pub flag-raw : (context : ReadContext) (list : List ℕ) (at : ℕ) → flaggedAt context list at 2 ≡ raw (packedAt 4 4 list (at + 1) (context .readLength))
 unfolding flaggedAt bit digit
 flag-raw context list at = refl
 
-flag-raw4 : (context : ReadContext) (list : List ℕ) (at : ℕ) → flaggedAt context list at 1 ≡ raw4 (packedAt 16 2 list (at + 1) (context .readLength))
+pub flag-raw4 : (context : ReadContext) (list : List ℕ) (at : ℕ) → flaggedAt context list at 1 ≡ raw4 (packedAt 16 2 list (at + 1) (context .readLength))
 unfolding flaggedAt bit digit
 flag-raw4 context list at = refl
 

@@ -94,13 +94,13 @@ length-local context field entries left right clipped =
 -- ---- Each kind, as it was read
 
 -- A flag byte by its count and its three kind bits.
-three-bits : (f : ℕ) → f ≡ f / 8 * 8 + f / 4 % 2 * 4 + f / 2 % 2 * 2 + f / 1 % 2
+pub three-bits : (f : ℕ) → f ≡ f / 8 * 8 + f / 4 % 2 * 4 + f / 2 % 2 * 2 + f / 1 % 2
 three-bits f =
     let a : f / 2 / 2 ≡ f / 4 = div-div-eq-div-mul f 2 2 in
     let b : f / 4 / 2 ≡ f / 8 = div-div-eq-div-mul f 4 2 in
     rw div-one (omega (arith, div-add-mod' f 2, div-add-mod' (f / 2) 2, div-add-mod' (f / 4) 2))
 
-bit-clear : (x : ℕ) → eqb (x % 2) 1 ≡ false → x % 2 ≡ 0
+pub bit-clear : (x : ℕ) → eqb (x % 2) 1 ≡ false → x % 2 ≡ 0
 bit-clear x e = omega (arith, eqb-false (x % 2) 1 e)
 
 module _ (context : ReadContext) (list : List ℕ) (at : ℕ) (bytes : AllBytes list) where

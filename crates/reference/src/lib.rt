@@ -279,7 +279,7 @@ fn put_letters(
 }
 
 // The reference index under letter k of a stretch.
-fn stretch_index(forward: bool, leftmost: usize, bases: usize, k: usize) -> usize
+pub fn stretch_index(forward: bool, leftmost: usize, bases: usize, k: usize) -> usize
     requires { ⌜ (k < bases) × (leftmost + bases ≤ maxReferenceBases) ⌝ }
     ensures { λ r. ⌜ r ≡ stretchIndex forward leftmost bases k ⌝ }
 {

@@ -1,0 +1,16 @@
+pub mod AlignedLaws
+pub mod AlikeLaws
+pub mod CountLaws
+pub mod DecodeLaws
+pub mod FieldLaws
+pub mod FieldsLaid
+pub mod FlagLaws
+pub mod LaidLaws
+pub mod LocalLaws
+pub mod NListLaws
+pub mod PositionLaws
+pub mod Raw4Laws
+pub mod RawLaws
+pub mod UnderNLaws
+pub mod Ranges
+pub mod DecodedLaid
