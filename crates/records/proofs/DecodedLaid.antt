@@ -28,6 +28,7 @@ use Rattle.records.specs.declared.Layout.{Layout}
 use Rattle.records.specs.Decoded.{recordOf, layoutOf}
 use Rattle.records.specs.Laid.{fieldsIn, isFound, packedIn, PlacedIn}
 use Rattle.records.specs.Laid.{Laid}
+use Rattle.records.specs.Printed.{Printable}
 use Rattle.records.proofs.Ranges.{packedSize, LaidInRange}
 use Rattle.records.proofs.LaidLaws.{laid-in-range}
 
@@ -124,4 +125,20 @@ decoded-laid context reference list at bytes fits short {stored = stored} {next 
       placed =
           placed-in list reference (context .referenceBases) (context .readLength)
           (recordOf context (stored .fields)) (layoutOf context at stored next) range fits;
+    }
+
+-- It can be printed.
+pub decoded-printable : (context : ReadContext) (reference list : List ℕ) (at : ℕ)
+    → AllBytes list → ReferenceFits (context .referenceBases) reference
+    → context .readLength ≤ maxReadLength
+    → {stored : StoredRecord} {next : ℕ} → recordAt context list at ≡ found stored next
+    → Printable list reference (context .readLength) (recordOf context (stored .fields))
+    (layoutOf context at stored next)
+decoded-printable context reference list at bytes fits short is =
+    let range = laid-in-range context list at bytes is in
+    record {
+      laid = decoded-laid context reference list at bytes fits short is;
+      counted = range .counted;
+      later = steps-tests _ _ (range .steps) .0;
+      codes = range .codes;
     }

@@ -166,7 +166,8 @@ fn under_n(section: &[u8], first: usize, count: usize, size: usize, letter: usiz
     false
 }
 
-fn is_forward(strand: Strand) -> bool
+// Whether a strand is the forward one.
+pub fn is_forward(strand: Strand) -> bool
     ensures { λ r. ⌜ r ≡ isForward strand ⌝ }
 {
     match strand {
