@@ -3,14 +3,13 @@ use mathlib.Core.Path.{_≡_, refl, sym, ap, _∙_, subst}
 use Prim.Native.Nat.{ℕ, _+_, _≤_, _<_}
 use native.Mathlib.Omega.{arith}
 use mathlib.Core.Bool.{Bool, true, false, cond}
-use mathlib.Core.List.{List, [], _∷_, _++_, map}
+use mathlib.Core.List.{List, [], _++_}
 use lib.ListN.{length, getD, length-append, length-map}
 use Rattle.base.specs.Lists.{AllBytes}
-use Rattle.base.specs.Numbers.{leBytes}
 use Rattle.base.specs.Answer.{found}
 use Rattle.base.proofs.NumberLaws.{length-leBytes}
 use Rattle.dna.specs.Record.{ReadContext, RecordFields, perfect, global, local, raw, raw4}
-use Rattle.dna.specs.Record.{StoredRecord, fieldWidth, entryByte, packedBytes, fieldsBytes}
+use Rattle.dna.specs.Record.{StoredRecord, fieldWidth, fieldsBytes}
 use Rattle.dna.specs.Record.{hasNList, nListBytes, recordBytes, FieldsFit}
 use Rattle.dna.specs.Alignment.{entriesOf, leftOf, rightOf, alignedLength, entryPlaces, nPositions}
 use Rattle.dna.specs.RecordAt.{recordAt}
@@ -20,8 +19,8 @@ use Rattle.dna.specs.Counts.{recordCounts}
 use Rattle.dna.specs.Rules.{ClipsHold, RulesHold}
 use Rattle.dna.specs.declared.Record.{Record}
 use Rattle.dna.proofs.OffsetLaws.{place-inside}
-use Rattle.dna.proofs.FieldLaws.{length-entries, length-packed}
-use Rattle.dna.proofs.RecordSound.{RecordFoundAt, record-found}
+use Rattle.dna.proofs.FieldLaws.{length-packed}
+use Rattle.dna.proofs.RecordSound.{length-global, length-local, RecordFoundAt, record-found}
 use Rattle.dna.proofs.RulesMean.{rules-mean}
 use Rattle.records.specs.declared.Layout.{Layout}
 use Rattle.records.specs.Decoded.{recordOf, headLength, clipBytes, layoutOf}
@@ -42,20 +41,11 @@ unfolding fieldsBytes headLength entriesOf clipBytes packedSize
 length-fields context (perfect field) fits =
     omega (arith, length-leBytes (fieldWidth context) field)
 length-fields context (global field entries) fits =
-    omega (
-      arith,
-      length-append (leBytes (fieldWidth context) field) (map entryByte entries),
-      length-leBytes (fieldWidth context) field,
-      length-entries entries,
-    )
+    omega (arith, length-global context field entries)
 length-fields context (local field entries left right clipped) fits =
-    let ends : List ℕ = left ∷ right ∷ packedBytes 4 4 clipped in
     omega (
       arith,
-      length-append (leBytes (fieldWidth context) field) (map entryByte entries ++ ends),
-      length-append (map entryByte entries) ends,
-      length-leBytes (fieldWidth context) field,
-      length-entries entries,
+      length-local context field entries left right clipped,
       length-packed 4 4 (omega arith) (omega arith) (left + right) clipped (fits .clipped-fit),
     )
 length-fields context (raw letters) fits =

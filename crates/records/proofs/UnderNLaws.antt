@@ -5,16 +5,14 @@ use Prim.Native.Nat.{ℕ, suc, _+_, _-_, _≤_, _<_}
 use native.Mathlib.Omega.{arith}
 use mathlib.Core.Bool.{Bool, true, false, cond, _||_}
 use mathlib.Core.List.{List, [], _∷_}
-use lib.ListN.{length}
 use lib.Dec.{ltb, eqb}
 use borrow.Author.Tests.{ne-eqb}
-use Rattle.base.specs.Lists.{any, member, placesFrom, AllBytes}
+use Rattle.base.specs.Lists.{any, member, placesFrom}
 use Rattle.base.specs.Faults.{fault}
 use Rattle.base.specs.Answer.{Scan, found, refused, checked, andThen}
 use Rattle.base.proofs.Tests.{absurd-test}
 use Rattle.dna.specs.Varint16At.{varint16At, wordsFor}
 use Rattle.dna.specs.RecordAt.{offsetsAt}
-use Rattle.dna.proofs.VarintLaws.{Varint, varint16-found}
 use Rattle.records.specs.declared.nlist.NPlace.the-variants as places
 use Rattle.records.specs.Decoded.{placeFrom}
 use Rattle.records.specs.Laid.{offsetsOf, isFound}
@@ -67,21 +65,6 @@ module _ (section : List ℕ) (n size least place there after : ℕ) where
   unfolding placeFrom andThen offsetsOf placesFrom
   place-none (found offset next) number e = let z : _≡_ {A = ℕ} 0 1 = cc in absurd (omega arith)
   place-none (refused number) number′ e = refl
-
--- A place that is read lies in the read, and its words in the section.
-pub place-inside : (section : List ℕ) (size place next there after : ℕ) (scan : Scan ℕ)
-    → AllBytes section → varint16At (wordsFor size) size place section next ≡ scan
-    → placeFrom place scan ≡ places.Found there after
-    → (there < size) × (after ≤ length section)
-unfolding placeFrom
-place-inside section size place next there after (found offset end) bytes e f =
-    let e₁ : place + offset ≡ there = cc in
-    let e₂ : end ≡ after = cc in
-    let v : Varint section size place next offset end =
-    varint16-found (wordsFor size) size place next bytes e in
-    (omega (arith, v .inside), omega (arith, v .stands .fits, v .ends))
-place-inside section size place next there after (refused number) bytes e f =
-    let z : _≡_ {A = ℕ} 0 1 = cc in absurd (omega arith)
 
 -- The offsets from place k on, after one at `place`.
 abbrev pub offsetsLeft : (section : List ℕ) (count size k place next : ℕ) → Scan (List ℕ)

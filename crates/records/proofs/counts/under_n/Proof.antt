@@ -12,7 +12,8 @@ use Rattle.base.specs.Answer.{Scan}
 use Rattle.dna.specs.Alignment.{nPositions}
 use Rattle.dna.specs.RecordAt.{offsetsAt}
 use Rattle.records.specs.Laid.{isFound, offsetsOf}
-use Rattle.records.proofs.UnderNLaws.{place-inside, offsetsLeft, namedLeft, left-first}
+use Rattle.records.proofs.NListLaws.{place-inside}
+use Rattle.records.proofs.UnderNLaws.{offsetsLeft, namedLeft, left-first}
 use Rattle.records.proofs.UnderNLaws.{left-none, left-refused, left-turn}
 use Rattle.records.proofs.counts.under_n.Statement.{statement}
 use Rattle.records.proofs.counts.under_n.Tie as tie
@@ -98,9 +99,9 @@ loop-again c =
     let l = turn .loop in
     let a = turn .before .before .args in
     let inside =
-    place-inside (a .section .now) (a .size) (l .place) (l .next) (there .given .0 .0)
-    (there .given .0 .1 .0) _
-    (record { each = λ k h. omega (arith, turn .before .shared-slice-known .given k) }) refl
+    place-inside (a .section .now) (a .size) (l .next) (l .place) (there .given .0 .0)
+    (there .given .0 .1 .0)
+    (record { each = λ k h. omega (arith, turn .before .shared-slice-known .given k) })
     (sym (read .read-n-place .ensures) ∙ there .given .1) in
     let parts =
     left-turn (a .section .now) (a .count) (a .size) (a .letter) (l .k) (l .place) (l .next)

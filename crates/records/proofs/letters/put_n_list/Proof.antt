@@ -13,7 +13,8 @@ use Rattle.records.specs.Laid.{isFound, offsetsOf}
 use Rattle.records.specs.Printed.{marked}
 use Rattle.records.specs.declared.nlist.NPlace.the-variants as places
 use Rattle.records.proofs.NListLaws.{placeAt}
-use Rattle.records.proofs.UnderNLaws.{place-inside, offsetsLeft, placesLeft, left-first}
+use Rattle.records.proofs.NListLaws.{place-inside}
+use Rattle.records.proofs.UnderNLaws.{offsetsLeft, placesLeft, left-first}
 use Rattle.records.proofs.UnderNLaws.{places-none, places-refused, places-turn}
 use Rattle.records.proofs.TurnLaws.{marked-none, marked-turn}
 use borrow.Author.Needs.{needs}
@@ -57,10 +58,10 @@ inside c =
     let there = c .before .there in
     let l = turn c .loop in
     let a = start c .args in
-    place-inside (a .section .now) (a .size) (l .place) (l .next) (there .given .0 .0)
-    (there .given .0 .1 .0) _
+    place-inside (a .section .now) (a .size) (l .next) (l .place) (there .given .0 .0)
+    (there .given .0 .1 .0)
     (record { each = λ k h. omega (arith, turn c .before .before .shared-slice-known .given k) })
-    refl (place-is c)
+    (place-is c)
 
 loop-holds : tie.Need-loop-holds Inv-loop μ-loop
 unfolding nPositions
