@@ -1,5 +1,5 @@
--- What the writer's tests and the fixed rule say, in propositions with 01's own numbers, each number
--- of refusal by itself (proofs/RuleMeans.antt).
+-- What the writer's tests and the fixed rule say, in propositions with 01's own numbers, each
+-- number of refusal by itself (proofs/RuleMeans.antt).
 use Prim.Native.Nat.{ℕ, suc, _+_, _-_, _≤_, _<_}
 use mathlib.Core.Path.{_≡_}
 use mathlib.Core.Bool.{true, false, cond}
