@@ -11,6 +11,7 @@ pub mod RuleEntries
 pub mod RuleRecord
 pub mod RuleBlock
 pub mod EncodeAnswer
+pub mod Answered
 pub mod Meaning
 pub mod RuleMeaning
 pub mod Demands
