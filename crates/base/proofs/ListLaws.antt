@@ -20,6 +20,11 @@ pub by-test {ℓ} : {X : Type ℓ} (test : Bool) → (test ≡ true → X) → (
 by-test true yes′ no′ = yes′ refl
 by-test false yes′ no′ = no′ refl
 
+-- A list without length is empty.
+pub no-length {ℓ} : {A : Type ℓ} (list : List A) → length list ≤ 0 → list ≡ []
+no-length [] h = refl
+no-length (x ∷ xs) h = absurd (omega arith)
+
 -- ---- build
 
 pub length-build {ℓ} : {A : Type ℓ} (n : ℕ) (f : ℕ → A) → length (build n f) ≡ n

@@ -15,7 +15,7 @@ use Rattle.base.specs.Numbers.{nonNegative}
 use Rattle.base.specs.Faults.{NoneFits}
 use Rattle.base.specs.Answer.{found, refusedAs}
 use Rattle.base.proofs.Tests.{absurd-test, or-neither, neither-or, and-first, not-false}
-use Rattle.base.proofs.ListLaws.{by-test, below-take, below-drop}
+use Rattle.base.proofs.ListLaws.{by-test, no-length, below-take, below-drop}
 use Rattle.base.proofs.AnswerLaws.{found-same, checked-none, checked-found, andThen-found}
 use Rattle.base.proofs.AnswerLaws.{andThen-parts, refusedAs-found, found-refusedAs, cond-yes}
 use Rattle.base.proofs.AnswerLaws.{cond-no}
@@ -40,10 +40,6 @@ use Rattle.format.proofs.HeaderLaws.{headerOf-append, sectionOf-append,
 use Rattle.format.proofs.HeaderLaws.{faults-right, faults-same}
 
 -- ---- Lengths
-
-no-length : (list : List ℕ) → length list ≤ 0 → list ≡ []
-no-length [] h = refl
-no-length (x ∷ xs) h = absurd (omega arith)
 
 replicate-none : (n : ℕ) (x y : ℕ) → n ≤ 0 → replicate n x ≡ replicate n y
 replicate-none zero x y h = refl

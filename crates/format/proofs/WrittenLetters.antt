@@ -9,7 +9,7 @@ use lib.Seq.{getD-take, getD-drop, getD-append-add, length-take-le, ext-getD}
 use lib.Dec.{leb, eqb}
 use borrow.Author.Tests.{leb-true, eqb-true, lt-ltb, le-ltb}
 use Rattle.base.specs.Lists.{part, member, placesFrom, placesWhere}
-use Rattle.base.proofs.ListLaws.{by-order, by-test, length-build, getD-build}
+use Rattle.base.proofs.ListLaws.{by-order, by-test, no-length, length-build, getD-build}
 use Rattle.base.proofs.PlacesWhereLaws.{places-rise, member-places, places-steps}
 use Rattle.base.proofs.AnswerLaws.{cond-yes, cond-no}
 use Rattle.base.proofs.Tests.{and-both, and-first, not-false, false-not}
@@ -51,10 +51,6 @@ pub record AtPlace (reference : List ℕ) (previous : ℕ) (codes : List ℕ) (c
   pub field : fieldOf fields ≡ fieldFor previous (storedPosition codes candidate)
   pub packed : 1 ≤ candidate .left + candidate .right → packedCodes fields ≡ clippedCodes codes candidate
 
-no-entries : (entries : List Entry) → length entries ≡ 0 → entries ≡ []
-no-entries [] e = refl
-no-entries (x ∷ xs) e = absurd (omega arith)
-
 pub at-place : (reference : List ℕ) (previous : ℕ) (codes : List ℕ) (candidate : Candidate)
     → AtPlace reference previous codes candidate (alignedFields reference previous codes candidate)
 unfolding alignedFields isAligned entriesOf leftOf rightOf fieldOf packedCodes padded
@@ -69,7 +65,9 @@ at-place reference previous codes candidate =
     rw (t, u)
     (record {
       aligned = refl;
-      entries = sym (no-entries entries (eqb-true (length entries) 0 u));
+      entries =
+          let bare : length entries ≡ 0 = eqb-true (length entries) 0 u in
+          sym (no-length entries (omega arith));
       left = omega arith;
       right = omega arith;
       field = refl;

@@ -13,6 +13,7 @@ use Rattle.base.specs.Faults.{NoneFits}
 use Rattle.base.specs.Answer.{firstNumber}
 use Rattle.base.proofs.AnswerLaws.{any-firstNumber}
 use Rattle.base.proofs.GroupLaws.{length-flatten}
+use Rattle.base.proofs.ListLaws.{no-length}
 use Rattle.base.proofs.StepsLaws.{length-stepsFrom, steps-of-places, last-place}
 use Rattle.base.proofs.Tests.{or-neither, neither-or, not-false, true-not, any-append}
 use Rattle.dna.specs.Reference.{alphabet, referenceSizeWrong, ReferenceFits}
@@ -113,13 +114,9 @@ cut-lengths [] letters e = refl
 cut-lengths (size ∷ lengths) letters e =
     ap₂ _∷_ (length-take-le size letters (omega arith)) (cut-lengths lengths (drop size letters) (omega (arith, length-drop size letters)))
 
-no-letters : (letters : List ℕ) → 0 ≡ length letters → [] ≡ letters
-no-letters [] e = refl
-no-letters (letter ∷ letters) e = absurd (omega arith)
-
 cut-flatten : (lengths letters : List ℕ) → total lengths ≡ length letters → flatten (cutBy lengths letters) ≡ letters
 unfolding total cutBy flatten
-cut-flatten [] letters e = no-letters letters e
+cut-flatten [] letters e = sym (no-length letters (omega arith))
 cut-flatten (size ∷ lengths) letters e =
     ap (λ (rest : List ℕ). take size letters ++ rest) (cut-flatten lengths (drop size letters) (omega (arith, length-drop size letters)))
     ∙ take-append-drop size letters
