@@ -1,0 +1,104 @@
+use native.Mathlib.Omega.{arith}
+use Rattle.lines.specs.Text.{text, decimal}
+use Rattle.lines.specs.Lines.{blockLine, labelled}
+use Rattle.lines.proofs.PutLaws.{put-next}
+use borrow.Author.Needs.{needs}
+use Rattle.lines.proofs.put_block_line.Statement.{statement}
+use Rattle.lines.proofs.put_block_line.Tie as tie
+use Rattle.lines.proofs.put_block_line.Reads as reads
+use Rattle.lines.proofs.put_block_line.Lts as lts
+use Rattle.lines.proofs.put_labelled.Reads as put-labelled-reads
+use Rattle.lines.proofs.put_text.Reads as put-text-reads
+
+-- src/lib.rt:63:30
+slice-aggregate-put-labelled : tie.Need-slice-aggregate-put-labelled
+slice-aggregate-put-labelled c = search needs
+
+-- src/lib.rt:63:9
+put-labelled-requires : tie.Need-put-labelled-requires
+put-labelled-requires c κs = search needs
+
+-- src/lib.rt:64:32
+slice-aggregate-put-labelled-2 : tie.Need-slice-aggregate-put-labelled-2
+slice-aggregate-put-labelled-2 c = search needs
+
+-- src/lib.rt:64:9
+put-labelled-requires-2 : tie.Need-put-labelled-requires-2
+put-labelled-requires-2 c κs = search needs
+
+-- src/lib.rt:65:32
+slice-aggregate-put-labelled-3 : tie.Need-slice-aggregate-put-labelled-3
+slice-aggregate-put-labelled-3 c = search needs
+
+-- src/lib.rt:65:9
+put-labelled-requires-3 : tie.Need-put-labelled-requires-3
+put-labelled-requires-3 c κs = search needs
+
+-- src/lib.rt:66:36
+slice-aggregate-put-labelled-4 : tie.Need-slice-aggregate-put-labelled-4
+slice-aggregate-put-labelled-4 c = search needs
+
+-- src/lib.rt:66:9
+put-labelled-requires-4 : tie.Need-put-labelled-requires-4
+put-labelled-requires-4 c κs = search needs
+
+-- src/lib.rt:67:28
+slice-aggregate-put-labelled-5 : tie.Need-slice-aggregate-put-labelled-5
+slice-aggregate-put-labelled-5 c = search needs
+
+-- src/lib.rt:67:9
+put-labelled-requires-5 : tie.Need-put-labelled-requires-5
+put-labelled-requires-5 c κs = search needs
+
+-- src/lib.rt:68:14
+slice-aggregate-put-text : tie.Need-slice-aggregate-put-text
+slice-aggregate-put-text c = search needs
+
+-- src/lib.rt:68:5
+put-text-requires : tie.Need-put-text-requires
+put-text-requires c κs = search needs
+
+-- src/lib.rt:57:1
+same-length : tie.Need-same-length
+same-length c = search needs
+
+-- src/lib.rt:57:1
+returns : tie.Need-returns
+unfolding blockLine labelled text
+returns c =
+    let start = c .before .before .before .before .before .before .before .before .before .before .before .before .before .before .before .before .before .before .before .before .before .before .before .before .before .before .before .before .before .before .before in
+    let a = start .args in
+    let p1 = c .before .before .before .before .before .before .before .before .before .before .before .before .before .before .before .before .before .before .before .before .before .before .before .before .before .before .before .put-labelled in
+    let p2 = c .before .before .before .before .before .before .before .before .before .before .before .before .before .before .before .before .before .before .before .before .before .before .put-labelled2 in
+    let p3 = c .before .before .before .before .before .before .before .before .before .before .before .before .before .before .before .before .before .put-labelled3 in
+    let p4 = c .before .before .before .before .before .before .before .before .before .before .before .before .put-labelled4 in
+    let p5 = c .before .before .before .before .before .before .before .put-labelled5 in
+    let p6 = c .before .before .put-text in
+    let two = put-next (a .out .now) (a .at) (labelled "block " (a .id)) (labelled " reads " (a .counts .reads)) _ _
+    (p1 .result) (p2 .result) (p1 .ensures .0, p1 .ensures .1) (omega (arith, start .pre, p1 .ensures .2)) (p2 .ensures .0, p2 .ensures .1) in
+    let three = put-next (a .out .now) (a .at) _ (labelled " letters " (a .counts .letters)) _ _
+    (p2 .result) (p3 .result) two (omega (arith, start .pre, p1 .ensures .2, p2 .ensures .2)) (p3 .ensures .0, p3 .ensures .1) in
+    let four = put-next (a .out .now) (a .at) _ (labelled " entries " (a .counts .entries)) _ _
+    (p3 .result) (p4 .result) three (omega (arith, start .pre, p1 .ensures .2, p2 .ensures .2, p3 .ensures .2)) (p4 .ensures .0, p4 .ensures .1) in
+    let five = put-next (a .out .now) (a .at) _ (labelled " differences " (a .counts .differences)) _ _
+    (p4 .result) (p5 .result) four (omega (arith, start .pre, p1 .ensures .2, p2 .ensures .2, p3 .ensures .2, p4 .ensures .2)) (p5 .ensures .0, p5 .ensures .1) in
+    put-next (a .out .now) (a .at) _ (text "\n") _ _ (p5 .result) (p6 .result) five (omega (arith, start .pre, p1 .ensures .2, p2 .ensures .2, p3 .ensures .2, p4 .ensures .2, p5 .ensures .2)) (p6 .ensures)
+
+pub put-block-line-spec : {M : Type 1} → statement M
+put-block-line-spec =
+    tie.close
+    (tie.spec
+    slice-aggregate-put-labelled
+    put-labelled-requires
+    slice-aggregate-put-labelled-2
+    put-labelled-requires-2
+    slice-aggregate-put-labelled-3
+    put-labelled-requires-3
+    slice-aggregate-put-labelled-4
+    put-labelled-requires-4
+    slice-aggregate-put-labelled-5
+    put-labelled-requires-5
+    slice-aggregate-put-text
+    put-text-requires
+    same-length
+    returns)

@@ -1,0 +1,38 @@
+-- The lines of a listing (01, Sums done by hand: the listing program). Every line ends in a line
+-- feed.
+use Prim.Native.Nat.{ℕ}
+use Prim.Native.String.{String}
+use mathlib.Core.List.{List, _++_}
+use Rattle.dna.specs.Counts.{Counted}
+use Rattle.lines.specs.Text.{text, decimal}
+
+-- No line but a read's is longer: a block line with five numbers of 20 digits.
+abbrev pub lineRoom : ℕ
+lineRoom = 145
+
+-- A number after its name.
+unfoldable pub labelled : (label : String) (number : ℕ) → List ℕ
+labelled label number = text label ++ decimal number
+
+-- A block line starts with b_id; the counts follow.
+unfoldable pub blockLine : (id : ℕ) (counts : Counted) → List ℕ
+blockLine id counts =
+    labelled "block " id
+    ++ labelled " reads " (counts .reads)
+    ++ labelled " letters " (counts .letters)
+    ++ labelled " entries " (counts .entries)
+    ++ labelled " differences " (counts .differences)
+    ++ text "\n"
+
+-- A read is a line of its letters.
+unfoldable pub readLine : (letters : List ℕ) → List ℕ
+readLine letters = letters ++ text "\n"
+
+-- The last line of a file that is accepted: the number of its blocks.
+unfoldable pub endLine : (blocks : ℕ) → List ℕ
+endLine blocks = labelled "end blocks " blocks ++ text "\n"
+
+-- The last line of any other: number, block index and read index of the refusal.
+unfoldable pub refusedLine : (number block read : ℕ) → List ℕ
+refusedLine number block read =
+    labelled "refused " number ++ labelled " " block ++ labelled " " read ++ text "\n"
