@@ -57,8 +57,8 @@ loop-again c =
     let letters = c .before .before .before .before .before .before .args .letters .now in (
       omega arith,
       c .larger .ensures
-      ∙ ap (max (l .invalid)) (c .before .no-letter .ensures)
-      ∙ letters-turn letters (l .i) (l .invalid) (omega arith) (l .inv .1),
+          ∙ ap (max (l .invalid)) (c .before .no-letter .ensures)
+          ∙ letters-turn letters (l .i) (l .invalid) (omega arith) (l .inv .1),
     )
 
 -- src/faults.rt:46:1
