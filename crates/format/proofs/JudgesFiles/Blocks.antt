@@ -36,27 +36,27 @@ block-some bases block wf = faults-right block (wf .noHeaderFault) .table
 -- ---- Well-formed blocks, then accepted
 
 -- The answer of a file that has bytes: its first block's, then that of the rest.
-abbrev onBlock : (most bases : ℕ) (reference file : List ℕ) (divided : BlockDivision) (next : ℕ) → Answer BlockRefusal (List BlockDivision)
+abbrev pub onBlock : (most bases : ℕ) (reference file : List ℕ) (divided : BlockDivision) (next : ℕ) → Answer BlockRefusal (List BlockDivision)
 onBlock most bases reference file divided next =
     andThen (refusedAs inLater (blocksAnswer most bases reference (drop next file))) (λ more end. found (divided ∷ more) (next + end))
 
-step : (most bases : ℕ) (reference file : List ℕ) → 0 < length file
+pub blocks-step : (most bases : ℕ) (reference file : List ℕ) → 0 < length file
     → blocksAnswer (suc most) bases reference file
     ≡ andThen (refusedAs inFirst (blockAnswer bases reference file)) (onBlock most bases reference file)
 unfolding blocksAnswer
-step most bases reference [] some = absurd (omega arith)
-step most bases reference (byte ∷ bytes) some = refl
+blocks-step most bases reference [] some = absurd (omega arith)
+blocks-step most bases reference (byte ∷ bytes) some = refl
 
-none : (most bases : ℕ) (reference : List ℕ) → blocksAnswer most bases reference [] ≡ found [] 0
+pub blocks-none : (most bases : ℕ) (reference : List ℕ) → blocksAnswer most bases reference [] ≡ found [] 0
 unfolding blocksAnswer
-none zero bases reference = refl
-none (suc most) bases reference = refl
+blocks-none zero bases reference = refl
+blocks-none (suc most) bases reference = refl
 
 blocks-accept : (bases : ℕ) (reference : List ℕ) → ReferenceFits bases reference → (blocks : List (List ℕ)) (ds : List BlockDivision) (most : ℕ)
     → AllWellFormed bases blocks → DivideBlocks bases blocks ds → length (flatten blocks) ≤ most
     → blocksAnswer most bases reference (flatten blocks) ≡ found ds (length (flatten blocks))
 unfolding flatten
-blocks-accept bases reference fits [] [] most wfs d h = none most bases reference
+blocks-accept bases reference fits [] [] most wfs d h = blocks-none most bases reference
 blocks-accept bases reference fits [] (x ∷ ds) most wfs d h = absurd d
 blocks-accept bases reference fits (block ∷ blocks) [] most wfs d h = absurd d
 blocks-accept bases reference fits (block ∷ blocks) (x ∷ ds) zero wfs d h =
@@ -65,7 +65,7 @@ blocks-accept bases reference fits (block ∷ blocks) (x ∷ ds) (suc most) wfs 
     let rest : List ℕ = flatten blocks in
     let some : 121 ≤ length block = block-some bases block (wfs .0) in
     let n : length (block ++ rest) ≡ length block + length rest = length-append block rest in
-    step most bases reference (block ++ rest) (omega arith)
+    blocks-step most bases reference (block ++ rest) (omega arith)
     ∙ andThen-found _ (refusedAs-found inFirst (block-accepts bases reference block rest x fits (wfs .0) (d .0)))
     (andThen-found _
     (refusedAs-found inLater
@@ -133,7 +133,7 @@ blocks-found (suc most) bases reference (byte ∷ tail) ds end bytes h e =
     → blocksAnswer most bases reference f ≡ found more end → FileFound bases reference f
     = λ f more end. blocks-found most bases reference f more end in
     andThen-parts (refusedAs inFirst (blockAnswer bases reference file)) (onBlock most bases reference file)
-    (sym (step most bases reference file (omega arith)) ∙ e) (λ divided next e₁ e₂.
+    (sym (blocks-step most bases reference file (omega arith)) ∙ e) (λ divided next e₁ e₂.
     let first : FirstOf bases file next =
     first-of bases reference file divided next bytes (found-refusedAs inFirst (blockAnswer bases reference file) e₁) in
     andThen-parts (refusedAs inLater (blocksAnswer most bases reference (drop next file))) _ e₂ (λ more last e₃ e₄.
