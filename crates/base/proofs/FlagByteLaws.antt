@@ -1,14 +1,15 @@
 -- Laws of flag bytes: each bit is that of its read, none past the last, and the byte is made of them. Assumes nothing.
-use mathlib.Core.Path.{_≡_, sym, ap, _∙_, subst}
-use Prim.Native.Nat.{ℕ, zero, suc, _+_, _≤_, _<_}
-use native.Mathlib.Nat.{not-suc-le-zero, le-of-suc-le-suc}
+use mathlib.Core.Path.{_≡_, refl, sym, ap, ap₂, _∙_, subst}
+use Prim.Native.Nat.{ℕ, zero, suc, _+_, _-_, _*_, _^_, _≤_, _<_}
+use native.Mathlib.Nat.{not-suc-le-zero, le-of-suc-le-suc, add-zero, mul-assoc, pow-zero, pow-suc, pow-le-pow-right}
+use native.Mathlib.Numerals.{add-one}
 use native.Mathlib.Omega.{arith}
 use mathlib.Core.Bool.{Bool, false, cond}
 use mathlib.Core.List.{List, [], _∷_, map}
-use lib.ListN.{length, getD, length-map, List·getD-eq-default}
+use lib.ListN.{length, getD, length-map, List·getD-map, List·getD-eq-default}
 use Rattle.base.specs.Packed.{bit, byteOf}
 use Rattle.base.specs.Groups.{byteBitStray, flagByte}
-use Rattle.base.proofs.ListLaws.{by-order}
+use Rattle.base.proofs.ListLaws.{by-order, getD-inside}
 use Rattle.base.proofs.PackedLaws.{byteOf-below}
 use Rattle.base.proofs.BitLaws.{cond-small, bit-byteOf, byteOf-bit, stray-clear, clear-stray}
 
@@ -71,3 +72,65 @@ pub flagByte-byte : {A : Type 0} (test : A → Bool) (group : List A) → flagBy
 unfolding flagByte
 flagByte-byte test group =
     byteOf-below 2 8 _ (λ k h. cond-small (getD (map test group) k false))
+
+-- ---- A flag byte gathered read by read
+
+-- Digits that are 0 at the end shift the number up.
+pub byteOf-more : (n m : ℕ) (f : ℕ → ℕ) → ((k : ℕ) → n ≤ k → k < n + m → f k ≡ 0)
+    → byteOf 2 (n + m) f ≡ byteOf 2 n f * 2 ^ m
+unfolding byteOf
+byteOf-more n zero f none = simp (pow-zero, add-zero) (omega arith)
+byteOf-more n (suc m) f none =
+    let ih : byteOf 2 (n + m) f ≡ byteOf 2 n f * 2 ^ m =
+    byteOf-more n m f (λ k low high. none k low (omega arith)) in
+    let last : f (n + m) ≡ 0 = none (n + m) (omega arith) (omega arith) in
+    let more : n + suc m ≡ suc (n + m) = omega arith in
+    ap (λ (k : ℕ). byteOf 2 k f) more
+    ∙ ap₂ (λ (b d : ℕ). b * 2 + d) ih last
+    ∙ add-zero (byteOf 2 n f * 2 ^ m * 2)
+    ∙ mul-assoc (byteOf 2 n f) (2 ^ m) 2
+    ∙ ap (λ (p : ℕ). byteOf 2 n f * p) (sym (pow-suc 2 m))
+
+module _ {A : Type 0} (test : A → Bool) (group : List A) where
+  -- The bits of the first k reads as a number.
+  unfoldable pub gathered : (k : ℕ) → ℕ
+  gathered k = byteOf 2 k (λ j. cond (getD (map test group) j false) 1 0)
+
+  pub gathered-none : 0 ≡ gathered 0
+  unfolding gathered byteOf
+  gathered-none = refl
+
+  -- One read more.
+  pub gathered-turn : (k flags : ℕ) (d : A) → k < length group → flags ≡ gathered k
+      → flags * 2 + cond (test (getD group k d)) 1 0 ≡ gathered (k + 1)
+  unfolding gathered byteOf
+  gathered-turn k flags d inside is =
+      ap₂ (λ (b : ℕ) (t : Bool). b * 2 + cond t 1 0) is
+      (sym (List·getD-map test group k d)
+      ∙ getD-inside (map test group) k (test d) false (omega (arith, length-map group test)))
+      ∙ ap gathered (sym (add-one k))
+
+  -- Seven reads and fewer leave room for one more.
+  pub gathered-room : (k : ℕ) → k < 8 → gathered k ≤ 127
+  unfolding gathered
+  gathered-room k few =
+      let most : k ≤ 7 = omega arith in
+      let power : 2 ^ k ≤ 2 ^ 7 = pow-le-pow-right (omega arith) most in
+      let low : byteOf 2 k (λ j. cond (getD (map test group) j false) 1 0) < 2 ^ k =
+      byteOf-below 2 k _ (λ j h. cond-small (getD (map test group) j false)) in
+      omega arith
+
+  -- The byte of a whole group, and of a shorter one shifted up.
+  pub gathered-end : (reads flags : ℕ) → reads ≡ length group → reads ≤ 8 → flags ≡ gathered reads
+      → flags * 2 ^ (8 - reads) ≡ flagByte test group
+  unfolding gathered flagByte
+  gathered-end reads flags all few is =
+      let f : ℕ → ℕ = λ j. cond (getD (map test group) j false) 1 0 in
+      let e : reads + (8 - reads) ≡ 8 = omega arith in
+      ap (λ (b : ℕ). b * 2 ^ (8 - reads)) is
+      ∙ sym
+      (byteOf-more reads (8 - reads) f
+      (λ k low high.
+      ap (λ (t : Bool). cond t 1 0)
+      (List·getD-eq-default (map test group) false (omega (arith, all, length-map group test)))))
+      ∙ ap (λ (n : ℕ). byteOf 2 n f) e

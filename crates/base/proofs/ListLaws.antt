@@ -66,6 +66,18 @@ pub build-snoc {ℓ} : {A : Type ℓ} (n : ℕ) (f : ℕ → A) → build (n + 1
 unfolding build
 build-snoc n f = build-append n 1 f ∙ ap (λ (x : _). build n f ++ (x ∷ [])) (ap f (add-zero n))
 
+-- A list is what stands at its indices.
+pub build-getD {ℓ} : {A : Type ℓ} (list : List A) (d : A) → build (length list) (λ k. getD list k d) ≡ list
+unfolding build
+build-getD [] d = refl
+build-getD (x ∷ xs) d = ap (λ (rest : List _). x ∷ rest) (build-getD xs d)
+
+-- Inside a list the default does not matter.
+pub getD-inside {ℓ} : {A : Type ℓ} (list : List A) (k : ℕ) (d e : A) → k < length list → getD list k d ≡ getD list k e
+getD-inside [] k d e h = absurd (not-suc-le-zero h)
+getD-inside (x ∷ xs) zero d e h = refl
+getD-inside (x ∷ xs) (suc k) d e h = getD-inside xs k d e (le-of-suc-le-suc h)
+
 -- ---- Below
 
 -- Past the end the default is 0, so a bound above 0 holds there too.

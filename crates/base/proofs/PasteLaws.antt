@@ -7,11 +7,11 @@ use mathlib.Core.List.{List, [], _∷_, _++_, append-assoc, append-nil}
 use lib.ListN.{length, getD, take, drop, set, length-append, length-drop, List·getD-append}
 use lib.ListN.{take-append-drop}
 use lib.Seq.{length-take-le, take-at, drop-at, drop-length, drop-drop, getD-append-add, getD-take}
-use lib.Seq.{getD-drop, paste, sets, sets-eq}
+use lib.Seq.{getD-drop, paste, sets, sets-eq, ext-getD}
 use Rattle.base.specs.Lists.{build}
 use Rattle.base.specs.Place.{At}
 use Rattle.base.specs.Paste.{pasted}
-use Rattle.base.proofs.ListLaws.{length-build, build-snoc}
+use Rattle.base.proofs.ListLaws.{by-order, length-build, build-snoc}
 
 module _ {ℓ} {A : Type ℓ} where
   -- Nothing is written.
@@ -173,3 +173,53 @@ module _ {ℓ} {A : Type ℓ} where
       ∙ ap (pasted buffer at) (sym (build-snoc k f))
 
 -- ---- Lists of numbers
+
+-- Two parts, one somewhere after the other, may be written in either order.
+pub pasted-apart : (buffer : List ℕ) (at : ℕ) (part : List ℕ) (place : ℕ) (later : List ℕ)
+    → at + length part ≤ place → place + length later ≤ length buffer
+    → pasted (pasted buffer place later) at part ≡ pasted (pasted buffer at part) place later
+pasted-apart buffer at part place later apart fits =
+    let first : List ℕ = pasted buffer at part in
+    let second : List ℕ = pasted buffer place later in
+    let room : at + length part ≤ length buffer = omega arith in
+    let size₁ : length first ≡ length buffer = length-pasted buffer at part room in
+    let size₂ : length second ≡ length buffer = length-pasted buffer place later fits in
+    let room₁ : place + length later ≤ length first = omega arith in
+    let room₂ : at + length part ≤ length second = omega arith in
+    ext-getD 0 _ _
+    (length-pasted second at part room₂ ∙ size₂ ∙ sym size₁ ∙ sym (length-pasted first place later room₁))
+    (λ k h.
+    by-order k at
+    (λ low.
+    getD-pasted-before second at part room₂ k 0 low
+    ∙ getD-pasted-before buffer place later fits k 0 (omega arith)
+    ∙ sym (getD-pasted-before buffer at part room k 0 low)
+    ∙ sym (getD-pasted-before first place later room₁ k 0 (omega arith)))
+    (λ high.
+    by-order k (at + length part)
+    (λ inside.
+    let e : k ≡ at + (k - at) = omega arith in
+    ap (λ (j : ℕ). getD (pasted second at part) j 0) e
+    ∙ getD-pasted-inside second at part room₂ (k - at) 0 (omega arith)
+    ∙ sym (getD-pasted-inside buffer at part room (k - at) 0 (omega arith))
+    ∙ ap (λ (j : ℕ). getD first j 0) (sym e)
+    ∙ sym (getD-pasted-before first place later room₁ k 0 (omega arith)))
+    (λ past.
+    getD-pasted-after second at part room₂ k 0 past
+    ∙ by-order k place
+    (λ between.
+    getD-pasted-before buffer place later fits k 0 between
+    ∙ sym (getD-pasted-after buffer at part room k 0 past)
+    ∙ sym (getD-pasted-before first place later room₁ k 0 between))
+    (λ there.
+    by-order k (place + length later)
+    (λ inside.
+    let e : k ≡ place + (k - place) = omega arith in
+    ap (λ (j : ℕ). getD second j 0) e
+    ∙ getD-pasted-inside buffer place later fits (k - place) 0 (omega arith)
+    ∙ sym (getD-pasted-inside first place later room₁ (k - place) 0 (omega arith))
+    ∙ ap (λ (j : ℕ). getD (pasted first place later) j 0) (sym e))
+    (λ after.
+    getD-pasted-after buffer place later fits k 0 after
+    ∙ sym (getD-pasted-after buffer at part room k 0 past)
+    ∙ sym (getD-pasted-after first place later room₁ k 0 after))))))

@@ -1,7 +1,7 @@
 -- The two flag bytes of a group, gathered read by read into one number. Assumes nothing.
 use mathlib.Core.Path.{_≡_, refl, sym, ap, ap₂, _∙_}
 use Prim.Native.Nat.{ℕ, zero, suc, _+_, _-_, _*_, _/_, _%_, _^_, _≤_, _<_, min}
-use native.Mathlib.Nat.{add-zero, mul-assoc, pow-zero, pow-suc, pow-le-pow-right, mod-eq-of-lt}
+use native.Mathlib.Nat.{pow-le-pow-right, mod-eq-of-lt}
 use native.Mathlib.Numerals.{add-one}
 use native.Mathlib.Omega.{arith}
 use mathlib.Core.Bool.{Bool, false, cond}
@@ -12,6 +12,7 @@ use Rattle.base.specs.Numbers.{leBytes}
 use Rattle.base.specs.Packed.{byteOf}
 use Rattle.base.proofs.BitLaws.{cond-small}
 use Rattle.base.proofs.PackedLaws.{byteOf-below, byteOf-cong}
+use Rattle.base.proofs.FlagByteLaws.{byteOf-more}
 use Rattle.base.specs.Groups.{flagByte}
 use Rattle.dna.specs.Sizes.{StoredSize, inWords, isSame, isInByte}
 use Rattle.lengths.specs.Form.{storedOf, flagBits}
@@ -25,22 +26,6 @@ byteOf-both : (n : ℕ) (f g : ℕ → ℕ)
 unfolding byteOf
 byteOf-both zero f g = refl
 byteOf-both (suc n) f g = omega (arith, byteOf-both n f g)
-
--- Digits that are 0 at the end shift the number up.
-byteOf-more : (n m : ℕ) (f : ℕ → ℕ) → ((k : ℕ) → n ≤ k → k < n + m → f k ≡ 0)
-    → byteOf 2 (n + m) f ≡ byteOf 2 n f * 2 ^ m
-unfolding byteOf
-byteOf-more n zero f none = simp (pow-zero, add-zero) (omega arith)
-byteOf-more n (suc m) f none =
-    let ih : byteOf 2 (n + m) f ≡ byteOf 2 n f * 2 ^ m =
-    byteOf-more n m f (λ k low high. none k low (omega arith)) in
-    let last : f (n + m) ≡ 0 = none (n + m) (omega arith) (omega arith) in
-    let more : n + suc m ≡ suc (n + m) = omega arith in
-    ap (λ (k : ℕ). byteOf 2 k f) more
-    ∙ ap₂ (λ (b d : ℕ). b * 2 + d) ih last
-    ∙ add-zero (byteOf 2 n f * 2 ^ m * 2)
-    ∙ mul-assoc (byteOf 2 n f) (2 ^ m) 2
-    ∙ ap (λ (p : ℕ). byteOf 2 n f * p) (sym (pow-suc 2 m))
 
 -- ---- The bits of a group
 

@@ -6,22 +6,12 @@ use native.Mathlib.Omega.{arith}
 use mathlib.Core.Bool.{cond}
 use mathlib.Core.List.{List, [], _∷_, _++_}
 use lib.ListN.{length, getD, take, length-append}
-use lib.Seq.{ext-getD}
 use lib.Dec.{ltb}
 use lib.Pow.{pow-add}
 use borrow.Author.Tests.{lt-ltb, le-ltb}
 use Rattle.io.specs.Digits.{digits, Fewest}
-use Rattle.base.specs.Lists.{build}
-use Rattle.base.proofs.ListLaws.{by-order, by-test, length-build, getD-build}
+use Rattle.base.proofs.ListLaws.{by-order, by-test}
 use Rattle.lines.specs.Text.{digitsOf, decimal}
-
--- A list is what stands at its indices.
-pub build-getD : (list : List ℕ) → build (length list) (λ k. getD list k 0) ≡ list
-build-getD list =
-    ext-getD 0 _ _ (length-build (length list) (λ k. getD list k 0))
-    (λ i h.
-    let small : i < length list = omega (arith, length-build (length list) (λ k. getD list k 0)) in
-    getD-build (length list) (λ k. getD list k 0) i 0 small)
 
 pow-positive : (count : ℕ) → 1 ≤ 10 ^ count
 pow-positive zero = omega (arith, pow-zero 10)

@@ -6,7 +6,7 @@ use borrow.Author.Needs.{needs}
 use Rattle.base.specs.Lists.{build}
 use Rattle.base.specs.Paste.{pasted}
 use Rattle.base.proofs.PasteLaws.{pasted-nil, pasted-turn}
-use Rattle.lines.proofs.TextLaws.{build-getD}
+use Rattle.base.proofs.ListLaws.{build-getD}
 use Rattle.lines.proofs.put_text.Statement.{statement}
 use Rattle.lines.proofs.put_text.Tie as tie
 use Rattle.lines.proofs.put_text.Reads as reads
@@ -73,7 +73,7 @@ returns c =
     let l = c .before .loop in
     let e : l .k ≡ length (a .text .now) = omega arith in (
       l .inv .1 ∙ ap (λ (k : ℕ). pasted (a .out .now) (a .at) (build k (λ j. getD (a .text .now) j 0))) e
-          ∙ ap (pasted (a .out .now) (a .at)) (build-getD (a .text .now)),
+          ∙ ap (pasted (a .out .now) (a .at)) (build-getD (a .text .now) 0),
       omega arith,
     )
 
