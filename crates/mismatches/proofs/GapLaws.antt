@@ -1,0 +1,123 @@
+-- The entries of one gap, written into a list: its fillers and then the difference. Assumes nothing.
+use mathlib.Core.Path.{_≡_, refl, sym, ap, ap₂, _∙_}
+use Prim.Native.Nat.{ℕ, suc, _+_, _-_, _*_, _≤_, _<_}
+use native.Mathlib.Omega.{arith}
+use mathlib.Core.List.{List, [], _∷_, _++_, map, map-append}
+use lib.ListN.{length, set, length-append, length-map}
+use lib.Dec.{leb}
+use borrow.Author.Tests.{le-leb, lt-leb}
+use Rattle.base.specs.Lists.{build}
+use Rattle.base.specs.Paste.{pasted}
+use Rattle.base.proofs.AnswerLaws.{cond-yes, cond-no}
+use Rattle.base.proofs.ListLaws.{by-order, length-build, build-snoc}
+use Rattle.base.proofs.PasteLaws.{pasted-nil, pasted-snoc}
+use Rattle.dna.specs.Record.{maxEntries, maxEntryOffset, Entry, entryByte}
+use Rattle.format.specs.RuleEntries.{Gap, fillerCount, gapEntries}
+use Rattle.mismatches.specs.Entries.{fillersFrom, answeredCount}
+
+-- ---- The count
+
+answered-few : (count : ℕ) → count ≤ maxEntries → answeredCount count ≡ count
+unfolding answeredCount
+answered-few count few = cond-yes _ (le-leb count maxEntries few) refl
+
+pub answered-all : (count answer : ℕ) → answer ≡ count → count ≤ maxEntries
+    → answer ≡ answeredCount count
+answered-all count answer e few = e ∙ sym (answered-few count few)
+
+pub answered-more : (count answer : ℕ) → answer ≡ suc maxEntries → maxEntries < count
+    → answer ≡ answeredCount count
+unfolding answeredCount
+answered-more count answer e many = sym (cond-no count (lt-leb count maxEntries many) (sym e))
+
+-- What is answered says whether there are more than 31.
+pub answered-within : (count answer : ℕ) → answer ≡ answeredCount count → answer ≤ maxEntries
+    → (count ≤ maxEntries) × (answer ≡ count)
+answered-within count answer e within =
+    by-order maxEntries count
+    (λ many. absurd (omega (arith, answered-more count (suc maxEntries) refl many)))
+    (λ few. (few, e ∙ answered-few count few))
+
+pub answered-over : (count answer : ℕ) → answer ≡ answeredCount count → maxEntries < answer
+    → (maxEntries < count) × (answer ≡ suc maxEntries)
+answered-over count answer e over =
+    by-order maxEntries count
+    (λ many. (many, e ∙ sym (answered-more count (suc maxEntries) refl many)))
+    (λ few. absurd (omega (arith, answered-few count few)))
+
+-- ---- Fillers
+
+module _ (expected : ℕ → ℕ) (place : ℕ) where
+  length-fillers : (count : ℕ) → length (map entryByte (fillersFrom expected place count)) ≡ count
+  unfolding fillersFrom
+  length-fillers count = length-map (fillersFrom expected place count) entryByte ∙ length-build count _
+
+  module _ (buffer : List ℕ) (at : ℕ) where
+    pub fillers-none : buffer ≡ pasted buffer at (map entryByte (fillersFrom expected place 0))
+    unfolding fillersFrom build
+    fillers-none = sym (pasted-nil buffer at)
+
+    -- One filler more.
+    pub fillers-turn : (out : List ℕ) (k there code byte : ℕ) → at + k < length buffer
+        → out ≡ pasted buffer at (map entryByte (fillersFrom expected place k))
+        → there ≡ place + maxEntryOffset * (k + 1) → code ≡ expected there
+        → byte ≡ entryByte (record { offset = maxEntryOffset; code = code })
+        → set out (at + k) byte
+        ≡ pasted buffer at (map entryByte (fillersFrom expected place (k + 1)))
+    unfolding fillersFrom
+    fillers-turn out k there code byte room e where′ given is =
+        let size : length (map entryByte (fillersFrom expected place k)) ≡ k = length-fillers k in
+        let more : there ≡ place + maxEntryOffset * suc k = omega arith in
+        pasted-snoc buffer out at (at + k) (map entryByte (fillersFrom expected place k)) byte
+        (omega arith) (omega arith) e
+        ∙ ap (pasted buffer at)
+        (ap
+        (λ (x : ℕ). map entryByte (fillersFrom expected place k) ++ (x ∷ []))
+        (is
+        ∙ ap (λ (x : ℕ). entryByte (record { offset = maxEntryOffset; code = x }))
+        (given ∙ ap expected more))
+        ∙ sym (map-append entryByte (fillersFrom expected place k) _)
+        ∙ ap (map entryByte)
+        (sym
+        (build-snoc k
+        (λ j. record { offset = maxEntryOffset; code = expected (place + maxEntryOffset * suc j) }))))
+
+  -- ---- A gap
+
+  module _ (gap code fillers : ℕ) (are : fillers ≡ fillerCount gap) where
+    -- Its fillers, and the difference.
+    gap-entries : gapEntries expected place (record { gap = gap; code = code })
+        ≡ fillersFrom expected place fillers
+        ++ (record { offset = gap - maxEntryOffset * fillers; code = code } ∷ [])
+    unfolding gapEntries fillersFrom
+    gap-entries =
+        ap
+        (λ (n : ℕ). fillersFrom expected place n
+        ++ (record { offset = gap - maxEntryOffset * n; code = code } ∷ []))
+        (sym are)
+
+    pub length-gap : length (gapEntries expected place (record { gap = gap; code = code }))
+        ≡ fillers + 1
+    length-gap =
+        ap length gap-entries
+        ∙ length-append (fillersFrom expected place fillers) _
+        ∙ ap (λ (n : ℕ). n + 1)
+        (sym (length-map (fillersFrom expected place fillers) entryByte) ∙ length-fillers fillers)
+
+    pub gap-written : (buffer out : List ℕ) (at byte : ℕ) → at + fillers < length buffer
+        → out ≡ pasted buffer at (map entryByte (fillersFrom expected place fillers))
+        → byte ≡ entryByte (record { offset = gap - maxEntryOffset * fillers; code = code })
+        → set out (at + fillers) byte
+        ≡ pasted buffer at
+        (map entryByte (gapEntries expected place (record { gap = gap; code = code })))
+    gap-written buffer out at byte room e is =
+        let size : length (map entryByte (fillersFrom expected place fillers)) ≡ fillers =
+        length-fillers fillers in
+        pasted-snoc buffer out at (at + fillers) (map entryByte (fillersFrom expected place fillers))
+        byte (omega arith) (omega arith) e
+        ∙ ap (pasted buffer at)
+        (ap
+        (λ (x : ℕ). map entryByte (fillersFrom expected place fillers) ++ (x ∷ []))
+        is
+        ∙ sym (map-append entryByte (fillersFrom expected place fillers) _)
+        ∙ ap (map entryByte) (sym gap-entries))

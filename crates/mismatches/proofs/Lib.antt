@@ -1,0 +1,5 @@
+pub mod PlaceLaws
+pub mod CodeLaws
+pub mod WordLaws
+pub mod GapLaws
+pub mod LeftLaws
