@@ -13,7 +13,7 @@ use Rattle.base.proofs.ListLaws.{by-order, length-build, build-snoc}
 use Rattle.base.proofs.PasteLaws.{pasted-nil, pasted-snoc}
 use Rattle.dna.specs.Record.{maxEntries, maxEntryOffset, Entry, entryByte}
 use Rattle.format.specs.RuleEntries.{Gap, fillerCount, gapEntries}
-use Rattle.mismatches.specs.Entries.{fillersFrom, answeredCount}
+use Rattle.mismatches.specs.Entries.{fillersFrom, answeredCount, EntriesPut}
 
 -- ---- The count
 
@@ -21,29 +21,41 @@ answered-few : (count : ℕ) → count ≤ maxEntries → answeredCount count �
 unfolding answeredCount
 answered-few count few = cond-yes _ (le-leb count maxEntries few) refl
 
-pub answered-all : (count answer : ℕ) → answer ≡ count → count ≤ maxEntries
-    → answer ≡ answeredCount count
-answered-all count answer e few = e ∙ sym (answered-few count few)
-
-pub answered-more : (count answer : ℕ) → answer ≡ suc maxEntries → maxEntries < count
-    → answer ≡ answeredCount count
+answered-many : (count : ℕ) → maxEntries < count → answeredCount count ≡ suc maxEntries
 unfolding answeredCount
-answered-more count answer e many = sym (cond-no count (lt-leb count maxEntries many) (sym e))
+answered-many count many = cond-no count (lt-leb count maxEntries many) refl
 
--- What is answered says whether there are more than 31.
-pub answered-within : (count answer : ℕ) → answer ≡ answeredCount count → answer ≤ maxEntries
-    → (count ≤ maxEntries) × (answer ≡ count)
-answered-within count answer e within =
-    by-order maxEntries count
-    (λ many. absurd (omega (arith, answered-more count (suc maxEntries) refl many)))
-    (λ few. (few, e ∙ answered-few count few))
+module _ {old new : List ℕ} {at : ℕ} {entries : List Entry} {answer : ℕ} where
+  -- They fit.
+  pub put-few : at + length entries ≤ maxEntries → answer ≡ at + length entries
+      → new ≡ pasted old at (map entryByte entries) → EntriesPut old new at entries answer
+  put-few few is e =
+      record { counted = is ∙ sym (answered-few (at + length entries) few); stand = λ h. e }
 
-pub answered-over : (count answer : ℕ) → answer ≡ answeredCount count → maxEntries < answer
-    → (maxEntries < count) × (answer ≡ suc maxEntries)
-answered-over count answer e over =
-    by-order maxEntries count
-    (λ many. (many, e ∙ sym (answered-more count (suc maxEntries) refl many)))
-    (λ few. absurd (omega (arith, answered-few count few)))
+  -- There are more.
+  pub put-many : maxEntries < at + length entries → answer ≡ suc maxEntries
+      → EntriesPut old new at entries answer
+  put-many many is =
+      record {
+        counted = is ∙ sym (answered-many (at + length entries) many);
+        stand = λ few. absurd (omega arith);
+      }
+
+  module _ (put : EntriesPut old new at entries answer) where
+    -- What is answered says whether they fit.
+    pub put-within : answer ≤ maxEntries
+        → (answer ≡ at + length entries) × (new ≡ pasted old at (map entryByte entries))
+    put-within within =
+        by-order maxEntries (at + length entries)
+        (λ many. absurd (omega (arith, put .counted, answered-many (at + length entries) many)))
+        (λ few. (put .counted ∙ answered-few (at + length entries) few, put .stand few))
+
+    pub put-over : maxEntries < answer
+        → (maxEntries < at + length entries) × (answer ≡ suc maxEntries)
+    put-over over =
+        by-order maxEntries (at + length entries)
+        (λ many. (many, put .counted ∙ answered-many (at + length entries) many))
+        (λ few. absurd (omega (arith, put .counted, answered-few (at + length entries) few)))
 
 -- ---- Fillers
 

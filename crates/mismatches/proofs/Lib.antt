@@ -3,3 +3,4 @@ pub mod CodeLaws
 pub mod WordLaws
 pub mod GapLaws
 pub mod LeftLaws
+pub mod CandidateLaws

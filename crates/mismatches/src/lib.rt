@@ -8,20 +8,20 @@ use compare::next_difference;
 ghost use mathlib.Core.Path.{_≡_};
 ghost use mathlib.Core.Bool.{true, false};
 ghost use mathlib.Core.List.{map};
-ghost use Prim.Native.Nat.{_+_, _-_, _*_, _≤_, _<_};
+ghost use Prim.Native.Nat.{_+_, _*_, _≤_, _<_};
 ghost use lib.ListN.{length};
 ghost use Rattle.base.specs.Paste.{pasted};
-ghost use Rattle.dna.specs.Sizes.{maxReadLength};
 ghost use Rattle.dna.specs.Record.{maxEntries, maxEntryOffset, entryByte};
-ghost use Rattle.format.specs.RuleEntries.{fillerCount, gapEntries};
+ghost use Rattle.format.specs.RuleEntries.{fillerCount};
 ghost use Rattle.format.specs.RuleBlock.{codeOfLetter};
 ghost use Rattle.reference.specs.Stretch.{StretchFits};
 ghost use Rattle.reference.specs.Tables.{wordTable};
 ghost use Rattle.mismatches.specs.Entries.{
   stretchBase,
   stretchEntries,
+  entriesBetween,
   fillersFrom,
-  answeredCount,
+  EntriesPut,
   AlignedFits,
 };
 
@@ -48,14 +48,9 @@ pub fn put_entries(
         × (now «forward_table» ≡ wordTable true)
         × (now «reverse_table» ≡ wordTable false)
         × (maxEntries ≤ length (now list)) ⌝ }
-    ensures { λ r. ⌜ (r ≡ answeredCount (length (stretchEntries (now (letters .entry)) start
-        (now (reference .entry)) forward leftmost aligned)))
-        × (length (stretchEntries (now (letters .entry)) start (now (reference .entry)) forward
-        leftmost aligned) ≤ maxEntries
-        → now (list .exit)
-        ≡ pasted (now (list .entry)) 0
-        (map entryByte (stretchEntries (now (letters .entry)) start (now (reference .entry))
-        forward leftmost aligned))) ⌝ }
+    ensures { λ r. ⌜ EntriesPut (now (list .entry)) (now (list .exit)) 0
+        (stretchEntries (now (letters .entry)) start (now (reference .entry)) forward leftmost
+        aligned) r ⌝ }
 {
     let mut count: usize = 0;
     let mut before: usize = 0;
@@ -111,17 +106,8 @@ fn put_gap(
     requires { ⌜ (StretchFits (now reference) leftmost aligned)
         × (before ≤ place) × (place < aligned) × (code < 4) × (count ≤ maxEntries)
         × (maxEntries ≤ length (now list)) ⌝ }
-    ensures { λ r. ⌜ (r ≡ answeredCount (count + length (gapEntries
-        (stretchBase (now (reference .entry)) forward leftmost aligned) before
-        (record { gap = place - before; code = code }))))
-        × (count + length (gapEntries
-        (stretchBase (now (reference .entry)) forward leftmost aligned) before
-        (record { gap = place - before; code = code })) ≤ maxEntries
-        → now (list .exit)
-        ≡ pasted (now (list .entry)) count
-        (map entryByte (gapEntries
-        (stretchBase (now (reference .entry)) forward leftmost aligned) before
-        (record { gap = place - before; code = code })))) ⌝ }
+    ensures { λ r. ⌜ EntriesPut (now (list .entry)) (now (list .exit)) count
+        (entriesBetween (now (reference .entry)) forward leftmost aligned before place code) r ⌝ }
 {
     let gap = place - before;
     let fillers = filler_count(gap);

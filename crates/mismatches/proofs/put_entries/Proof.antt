@@ -9,8 +9,7 @@ use Rattle.dna.specs.Record.{maxEntries}
 use Rattle.mismatches.specs.Entries.{stretchBase, alignedCodes, stretchEntries}
 use Rattle.mismatches.proofs.CodeLaws.{length-alignedCodes, getD-alignedCodes}
 use Rattle.mismatches.proofs.CodeLaws.{difference-code}
-use Rattle.mismatches.proofs.GapLaws.{answered-all, answered-more, answered-within}
-use Rattle.mismatches.proofs.GapLaws.{answered-over}
+use Rattle.mismatches.proofs.GapLaws.{put-few, put-many, put-within, put-over}
 use Rattle.mismatches.proofs.LeftLaws.{Writing, writing-start, writing-passed, writing-over}
 use Rattle.mismatches.proofs.LeftLaws.{writing-turn, writing-end}
 use Rattle.mismatches.proofs.put_entries.Statement.{statement}
@@ -99,13 +98,14 @@ returns c =
     let is =
     coded .code-of-letter .ensures
     ∙ sym
-    (getD-alignedCodes (a .letters .now) (a .start) (a .aligned) (start .pre .0 .inside) there inside) in
+    (getD-alignedCodes (a .letters .now) (a .start) (a .aligned) (start .pre .0 .inside) there
+    inside) in
     let writing = writing-passed _ _ _ (l .inv .3) (first .passed) (first .inside) in
-    let over = answered-over _ _ (put .put-gap .ensures .0) (c .if2 .taken) in
+    let over = put-over (put .put-gap .ensures) (c .if2 .taken) in
     let many =
     writing-over _ _ _ writing inside (first .holds inside) rises (coded .code-of-letter .result)
     is 31 (over .0) in
-    (answered-more _ _ (over .1) many, λ few. absurd (omega arith))
+    put-many (omega arith) (over .1)
 
 add-place : tie.Need-add-place Inv-loop μ-loop
 add-place c = search needs
@@ -128,16 +128,16 @@ loop-again c =
     let is =
     coded .code-of-letter .ensures
     ∙ sym
-    (getD-alignedCodes (a .letters .now) (a .start) (a .aligned) (start .pre .0 .inside) there inside) in
+    (getD-alignedCodes (a .letters .now) (a .start) (a .aligned) (start .pre .0 .inside) there
+    inside) in
     let writing = writing-passed _ _ _ (l .inv .3) (first .passed) (first .inside) in
-    let within = answered-within _ _ (put .put-gap .ensures .0) (c .if2 .left) in (
+    let within = put-within (put .put-gap .ensures) (c .if2 .left) in (
       omega arith,
       omega arith,
       c .if2 .left,
       writing-turn _ _ _ writing inside (first .holds inside) rises (coded .code-of-letter .result)
           is (put .put-gap .last .1 .1 .1 .1 .1 .1 .1 .0) (put .put-gap .result)
-          (put .put-gap .ensures .1 (within .0)) (within .1)
-          (omega (arith, within .0, within .1, l .inv .3 .sized, start .pre .4)),
+          (within .1) (within .0) (omega (arith, c .if2 .left, l .inv .3 .sized, start .pre .4)),
     )
 
 loop-less-2 : tie.Need-loop-less-2 Inv-loop μ-loop
@@ -161,10 +161,8 @@ returns-2 : tie.Need-returns-2 Inv-loop μ-loop
 unfolding stretchEntries
 returns-2 c =
     let l = c .before .loop in
-    let done = writing-end _ _ _ (l .inv .3) (c .loop-test .left) in (
-      answered-all _ _ (done .1) (omega (arith, done .1)),
-      λ few. done .0,
-    )
+    let done = writing-end _ _ _ (l .inv .3) (c .loop-test .left) in
+    put-few (omega (arith, l .inv .2, done .1)) (omega (arith, done .1)) (done .0)
 
 pub put-entries-spec : {M : Type 1} → statement M
 put-entries-spec =

@@ -1,11 +1,9 @@
 -- `mismatches::put_gap` meets its contract. Assumes nothing.
-use Prim.Native.Nat.{ℕ, suc, _+_, _-_, _*_, _≤_}
+use Prim.Native.Nat.{_-_}
 use native.Mathlib.Omega.{arith}
-use mathlib.Core.Path.{_≡_, sym, ap, _∙_}
-use Rattle.dna.specs.Record.{maxEntries}
 use Rattle.format.specs.RuleEntries.{fillerCount}
-use Rattle.mismatches.specs.Entries.{stretchBase, answeredCount}
-use Rattle.mismatches.proofs.GapLaws.{answered-all, answered-more, length-gap, gap-written}
+use Rattle.mismatches.specs.Entries.{stretchBase}
+use Rattle.mismatches.proofs.GapLaws.{put-few, put-many, length-gap, gap-written}
 use borrow.Author.Needs.{needs}
 use Rattle.mismatches.proofs.put_gap.Statement.{statement}
 use Rattle.mismatches.proofs.put_gap.Tie as tie
@@ -30,10 +28,8 @@ returns c =
     let size =
     length-gap (stretchBase (a .reference .now) (a .forward) (a .leftmost) (a .aligned))
     (a .before) (a .place - a .before) (a .code) (counted .filler-count .result)
-    (counted .filler-count .ensures) in (
-      answered-more _ _ (omega arith) (omega arith),
-      λ few. absurd (omega arith),
-    )
+    (counted .filler-count .ensures) in
+    put-many (omega arith) (omega arith)
 
 put-fillers-requires : tie.Need-put-fillers-requires
 unfolding fillerCount
@@ -81,13 +77,12 @@ returns-2 c =
     let expected = stretchBase (a .reference .now) (a .forward) (a .leftmost) (a .aligned) in
     let size =
     length-gap expected (a .before) (a .place - a .before) (a .code) fillers
-    (counted .filler-count .ensures) in (
-      answered-all _ _ (omega arith) (omega arith),
-      λ few.
-          gap-written expected (a .before) (a .place - a .before) (a .code) fillers
-          (counted .filler-count .ensures) (a .list .now) (put .put-fillers .last .1 .1 .1 .1 .1 .1 .0) (a .count)
-          (c .entry-byte .result) (omega arith) (put .put-fillers .ensures) (c .entry-byte .ensures),
-    )
+    (counted .filler-count .ensures) in
+    put-few (omega arith) (omega arith)
+    (gap-written expected (a .before) (a .place - a .before) (a .code) fillers
+    (counted .filler-count .ensures) (a .list .now)
+    (put .put-fillers .last .1 .1 .1 .1 .1 .1 .0) (a .count) (c .entry-byte .result)
+    (omega arith) (put .put-fillers .ensures) (c .entry-byte .ensures))
 
 pub put-gap-spec : {M : Type 1} → statement M
 put-gap-spec =
