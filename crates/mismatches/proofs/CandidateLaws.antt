@@ -1,9 +1,9 @@
 -- What the writer's rule asks of a candidate, in the terms of this crate: for the caller of
 -- put_entries. Assumes nothing.
-use mathlib.Core.Path.{_≡_, refl, sym, ap, ap₂, _∙_, subst}
+use mathlib.Core.Path.{_≡_, sym, ap, _∙_, subst}
 use Prim.Native.Nat.{ℕ, _+_, _-_, _≤_, _<_}
 use native.Mathlib.Omega.{arith}
-use mathlib.Core.Bool.{Bool, true, false, not}
+use mathlib.Core.Bool.{Bool, false, not}
 use mathlib.Core.List.{List}
 use lib.ListN.{length, getD, drop, length-drop}
 use lib.Seq.{length-take-le, getD-take, getD-drop, ext-getD}
@@ -11,7 +11,6 @@ use lib.Dec.{eqb}
 use Rattle.base.specs.Lists.{part, any, member}
 use Rattle.base.proofs.Tests.{any-none, not-false}
 use Rattle.dna.specs.Reference.{alphabet}
-use Rattle.dna.specs.Record.{Entry}
 use Rattle.format.specs.RuleEntries.{gapsOf, entriesOfGaps}
 use Rattle.format.specs.RuleRecord.{Candidate, alignedCount, expectedAt, candidateGaps}
 use Rattle.format.specs.RuleRecord.{candidateEntries}

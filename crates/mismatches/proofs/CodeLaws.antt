@@ -1,12 +1,11 @@
 -- Letters and their codes: when an aligned letter differs. Assumes nothing.
-use mathlib.Core.Path.{_≡_, refl, sym, ap, _∙_, subst}
+use mathlib.Core.Path.{_≡_, refl, sym, ap, _∙_}
 use Prim.Native.Nat.{ℕ, zero, suc, _+_, _*_, _/_, _%_, _^_, _≤_, _<_}
 use native.Mathlib.Nat.{not-suc-le-zero, le-of-suc-le-suc}
 use native.Mathlib.Omega.{arith}
-use mathlib.Core.Bool.{Bool, true, false, not, _&&_}
+use mathlib.Core.Bool.{Bool, true, false, not}
 use mathlib.Core.List.{List, [], _∷_, map}
-use lib.ListN.{length, getD, take, drop, length-drop, length-map, List·getD-map}
-use lib.ListN.{List·getD-eq-default}
+use lib.ListN.{length, getD, drop, length-drop, length-map}
 use lib.Seq.{length-take-le, getD-take, getD-drop}
 use lib.Dec.{eqb}
 use borrow.Author.Tests.{eqb-true, eqb-false, eq-eqb, ne-eqb}
@@ -73,8 +72,8 @@ pub stretchBase-below : (reference : List ℕ) (forward : Bool) (leftmost bases 
 unfolding stretchBase
 stretchBase-below reference forward leftmost bases k = strandBase-below reference forward _
 
-pub given-below : (code reference-base : ℕ) → code ≡ reference-base → reference-base < 4 → code < 4
-given-below code reference-base e small = omega arith
+pub code-below : (code base : ℕ) → code ≡ base → base < 4 → code < 4
+code-below code base e small = omega arith
 
 module _ (letters : List ℕ) (start aligned : ℕ) (inside : start + aligned ≤ length letters) where
   length-aligned : length (part letters start aligned) ≡ aligned
@@ -115,17 +114,15 @@ module _ (letters : List ℕ) (start aligned : ℕ) (inside : start + aligned �
         coded ∙ ap codeOfLetter same ∙ code-of-letter given (omega arith) in
         rw (ne-eqb code codeN (λ n. omega arith), eq-eqb code given e)
 
-    -- Any other is.
-    pub differs-other : (letter ≡ 78 → ⊥)
+    plain : (letter ≡ 78 → ⊥)
         → not (eqb letter (letterOfCode (stretchBase reference forward leftmost aligned k)))
         ≡ differsOn letters start reference forward leftmost aligned k
     unfolding differsAt letterOfCode
-    differs-other other =
+    plain other =
         let given : ℕ = stretchBase reference forward leftmost aligned k in
         let code : ℕ = getD (alignedCodes letters start aligned) k 0 in
         let small : given < 4 = stretchBase-below reference forward leftmost aligned k in
-        let of-code : (c : ℕ) → c < 5 → code ≡ c → letter ≡ letterOfCode c =
-        λ c h e.
+        let of-code : (c : ℕ) → c < 5 → code ≡ c → letter ≡ letterOfCode c = λ c h e.
         let is-c : codeOfLetter letter ≡ c = sym coded ∙ e in
         letter-of-code letter (omega arith) ∙ ap letterOfCode is-c in
         by-test (eqb letter (letterOfCode given))
@@ -137,6 +134,13 @@ module _ (letters : List ℕ) (start aligned : ℕ) (inside : start + aligned �
           ne-eqb code given
               (λ e. eqb-false letter (letterOfCode given) t (of-code given (omega arith) e)),
         ))
+
+    -- Any other differs exactly if it is not the letter of what the reference gives.
+    pub differs-plain : (letter ≡ 78 → ⊥) → (code shown : ℕ)
+        → code ≡ stretchBase reference forward leftmost aligned k → shown ≡ letterOfCode code
+        → not (eqb letter shown) ≡ differsOn letters start reference forward leftmost aligned k
+    differs-plain other code shown given is =
+        ap (λ (l : ℕ). not (eqb letter l)) (is ∙ ap letterOfCode given) ∙ plain other
 
 -- A letter that differs is one of A, C, G, T.
 pub difference-code : (letters : List ℕ) (start aligned : ℕ) → AlignedFits letters start aligned

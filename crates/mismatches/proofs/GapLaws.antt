@@ -1,10 +1,9 @@
 -- The entries of one gap, written into a list: its fillers and then the difference. Assumes nothing.
-use mathlib.Core.Path.{_≡_, refl, sym, ap, ap₂, _∙_}
+use mathlib.Core.Path.{_≡_, refl, sym, ap, _∙_}
 use Prim.Native.Nat.{ℕ, suc, _+_, _-_, _*_, _≤_, _<_}
 use native.Mathlib.Omega.{arith}
 use mathlib.Core.List.{List, [], _∷_, _++_, map, map-append}
 use lib.ListN.{length, set, length-append, length-map}
-use lib.Dec.{leb}
 use borrow.Author.Tests.{le-leb, lt-leb}
 use Rattle.base.specs.Lists.{build}
 use Rattle.base.specs.Paste.{pasted}
@@ -12,7 +11,7 @@ use Rattle.base.proofs.AnswerLaws.{cond-yes, cond-no}
 use Rattle.base.proofs.ListLaws.{by-order, length-build, build-snoc}
 use Rattle.base.proofs.PasteLaws.{pasted-nil, pasted-snoc}
 use Rattle.dna.specs.Record.{maxEntries, maxEntryOffset, Entry, entryByte}
-use Rattle.format.specs.RuleEntries.{Gap, fillerCount, gapEntries}
+use Rattle.format.specs.RuleEntries.{fillerCount, gapEntries}
 use Rattle.mismatches.specs.Entries.{fillersFrom, answeredCount, EntriesPut}
 
 -- ---- The count

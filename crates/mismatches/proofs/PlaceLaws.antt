@@ -1,6 +1,6 @@
 -- The places at which a test holds, from one on: none, or the first of them and those after it.
 -- Assumes nothing.
-use mathlib.Core.Path.{_≡_, refl, sym, ap, ap₂, _∙_}
+use mathlib.Core.Path.{_≡_, sym, ap, ap₂, _∙_}
 use Prim.Native.Nat.{ℕ, zero, suc, _+_, _-_, _≤_, _<_}
 use native.Mathlib.Omega.{arith}
 use mathlib.Core.Bool.{Bool, true, false}
@@ -8,7 +8,7 @@ use mathlib.Core.List.{List, [], _∷_}
 use Rattle.base.specs.Lists.{keep, placesWhere}
 use Rattle.base.proofs.ListLaws.{by-order}
 use Rattle.base.proofs.PlacesWhereLaws.{countUp, places-count}
-use Rattle.mismatches.specs.Places.{NoneBetween}
+use Rattle.mismatches.specs.Places.{NoneBetween, FirstWhere}
 
 -- ---- A search
 
@@ -25,15 +25,28 @@ none-then {test} {from} {middle} {to} first second =
           by-order k middle (λ l. first .none k low l) (λ g. second .none k g high);
     }
 
--- One place more.
-pub none-more : {test : ℕ → Bool} {from to : ℕ} → NoneBetween test from to → test to ≡ false
-    → NoneBetween test from (to + 1)
-none-more {test} {from} {to} passed fails =
+-- One place more, by the answer of its test.
+pub none-more : {test : ℕ → Bool} {from to : ℕ} → NoneBetween test from to
+    → (answer : Bool) → answer ≡ test to → answer ≡ false → NoneBetween test from (to + 1)
+none-more {test} {from} {to} passed answer is fails =
     none-then passed
     (record {
       rises = omega arith;
-      none = λ k low high. let is : k ≡ to = omega arith in ap test is ∙ fails;
+      none = λ k low high. let here : k ≡ to = omega arith in ap test here ∙ sym is ∙ fails;
     })
+
+-- The search ends at a place where the test holds.
+pub first-found : {test : ℕ → Bool} {from place : ℕ} (bound : ℕ) → NoneBetween test from place
+    → place < bound → (answer : Bool) → answer ≡ test place → answer ≡ true
+    → FirstWhere test from bound place
+first-found bound passed inside answer is holds =
+    record { passed = passed; inside = omega arith; holds = λ h. sym is ∙ holds }
+
+-- It ends at the bound.
+pub first-none : {test : ℕ → Bool} {from place : ℕ} (bound : ℕ) → NoneBetween test from place
+    → place ≤ bound → bound ≤ place → FirstWhere test from bound place
+first-none bound passed inside past =
+    record { passed = passed; inside = inside; holds = λ h. absurd (omega arith) }
 
 -- ---- The places
 

@@ -3,14 +3,14 @@
 use mathlib.Core.Path.{_≡_, refl, sym, ap, _∙_, subst}
 use Prim.Native.Nat.{ℕ, _+_, _-_, _*_, _^_, _≤_, _<_}
 use native.Mathlib.Omega.{arith}
-use mathlib.Core.Bool.{Bool, cond}
+use mathlib.Core.Bool.{Bool}
 use mathlib.Core.List.{List}
 use lib.ListN.{length, getD}
 use Rattle.base.specs.Lists.{AllBytes}
 use Rattle.base.specs.Numbers.{le, leBytes}
 use Rattle.base.specs.Place.{At}
 use Rattle.base.proofs.NumberLaws.{le-add, le-below, leBytes-le}
-use Rattle.dna.specs.Reference.{letterOfCode, stretchLetters}
+use Rattle.dna.specs.Reference.{stretchLetters}
 use Rattle.dna.proofs.ReferenceLaws.{length-stretchLetters, getD-stretchLetters}
 use Rattle.dna.proofs.ReferenceLaws.{stretchLetters-bytes, pieceLeftmost, stretch-piece}
 use Rattle.reference.specs.Tables.{byteWord, wordTable}

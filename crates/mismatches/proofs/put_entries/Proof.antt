@@ -1,15 +1,13 @@
 use borrow.Author.Needs.{needs}
 -- `mismatches::put_entries` meets its contract. The invariant: the entries of the differences passed
 -- stand, and those that are left complete them. The measure is what is left. Assumes nothing.
-use Prim.Native.Nat.{ℕ, suc, _+_, _-_, _*_, _≤_, _<_}
+use Prim.Native.Nat.{_-_, _≤_}
 use native.Mathlib.Omega.{arith}
-use mathlib.Core.Path.{_≡_, sym, ap, _∙_}
-use lib.ListN.{length, getD}
+use mathlib.Core.Path.{sym, _∙_}
 use Rattle.dna.specs.Record.{maxEntries}
 use Rattle.mismatches.specs.Entries.{stretchBase, alignedCodes, stretchEntries}
 use Rattle.mismatches.proofs.CodeLaws.{length-alignedCodes, getD-alignedCodes}
 use Rattle.mismatches.proofs.CodeLaws.{difference-code}
-use Rattle.mismatches.proofs.GapLaws.{put-few, put-many, put-within, put-over}
 use Rattle.mismatches.proofs.LeftLaws.{Writing, writing-start, writing-passed, writing-over}
 use Rattle.mismatches.proofs.LeftLaws.{writing-turn, writing-end}
 use Rattle.mismatches.proofs.put_entries.Statement.{statement}
@@ -90,22 +88,16 @@ returns c =
     let inside = coded .before .before .if1 .taken in
     let found = coded .before .before .before in
     let there = found .next-difference .result in
-    let first = found .next-difference .ensures in
     let l = found .before .before .loop in
     let start = found .before .before .before .before .before .before in
     let a = start .args in
-    let rises : l .before ≤ there = omega (arith, l .inv .1, first .passed .rises) in
     let is =
     coded .code-of-letter .ensures
     ∙ sym
     (getD-alignedCodes (a .letters .now) (a .start) (a .aligned) (start .pre .0 .inside) there
     inside) in
-    let writing = writing-passed _ _ _ (l .inv .3) (first .passed) (first .inside) in
-    let over = put-over (put .put-gap .ensures) (c .if2 .taken) in
-    let many =
-    writing-over _ _ _ writing inside (first .holds inside) rises (coded .code-of-letter .result)
-    is 31 (over .0) in
-    put-many (omega arith) (over .1)
+    writing-over _ _ _ (l .inv .3) (found .next-difference .ensures) inside (l .inv .1) is
+    (put .put-gap .ensures) (c .if2 .taken)
 
 add-place : tie.Need-add-place Inv-loop μ-loop
 add-place c = search needs
@@ -120,24 +112,19 @@ loop-again c =
     let inside = coded .before .before .if1 .taken in
     let found = coded .before .before .before in
     let there = found .next-difference .result in
-    let first = found .next-difference .ensures in
     let l = found .before .before .loop in
     let start = found .before .before .before .before .before .before in
     let a = start .args in
-    let rises : l .before ≤ there = omega (arith, l .inv .1, first .passed .rises) in
     let is =
     coded .code-of-letter .ensures
     ∙ sym
     (getD-alignedCodes (a .letters .now) (a .start) (a .aligned) (start .pre .0 .inside) there
-    inside) in
-    let writing = writing-passed _ _ _ (l .inv .3) (first .passed) (first .inside) in
-    let within = put-within (put .put-gap .ensures) (c .if2 .left) in (
+    inside) in (
       omega arith,
       omega arith,
       c .if2 .left,
-      writing-turn _ _ _ writing inside (first .holds inside) rises (coded .code-of-letter .result)
-          is (put .put-gap .last .1 .1 .1 .1 .1 .1 .1 .0) (put .put-gap .result)
-          (within .1) (within .0) (omega (arith, c .if2 .left, l .inv .3 .sized, start .pre .4)),
+      writing-turn _ _ _ (l .inv .3) (found .next-difference .ensures) inside (l .inv .1) is
+          (put .put-gap .ensures) (c .if2 .left) (omega (arith, l .inv .3 .sized, start .pre .4)),
     )
 
 loop-less-2 : tie.Need-loop-less-2 Inv-loop μ-loop
@@ -161,8 +148,7 @@ returns-2 : tie.Need-returns-2 Inv-loop μ-loop
 unfolding stretchEntries
 returns-2 c =
     let l = c .before .loop in
-    let done = writing-end _ _ _ (l .inv .3) (c .loop-test .left) in
-    put-few (omega (arith, l .inv .2, done .1)) (omega (arith, done .1)) (done .0)
+    writing-end _ _ _ (l .inv .3) (c .loop-test .left) (l .inv .2)
 
 pub put-entries-spec : {M : Type 1} → statement M
 put-entries-spec =

@@ -4,13 +4,13 @@ use borrow.Author.Needs.{needs}
 -- what is left. Assumes nothing.
 use Prim.Native.Nat.{ℕ, _+_, _-_, _*_, _≤_}
 use native.Mathlib.Omega.{arith}
-use mathlib.Core.Path.{_≡_, refl, sym, ap, _∙_}
+use mathlib.Core.Path.{_≡_, refl, ap, _∙_}
 use lib.ListN.{length, length-set}
 use Rattle.base.specs.Paste.{pasted}
 use mathlib.Core.List.{map}
 use Rattle.dna.specs.Record.{entryByte}
 use Rattle.mismatches.specs.Entries.{stretchBase, fillersFrom}
-use Rattle.mismatches.proofs.CodeLaws.{stretchBase-below, given-below}
+use Rattle.mismatches.proofs.CodeLaws.{stretchBase-below, code-below}
 use Rattle.mismatches.proofs.put_fillers.Statement.{statement}
 use Rattle.mismatches.proofs.put_fillers.Tie as tie
 
@@ -49,7 +49,7 @@ expected-code-requires c κs = search needs
 
 entry-byte-requires : tie.Need-entry-byte-requires Inv-loop μ-loop
 entry-byte-requires c κs =
-    (omega arith, given-below _ _ (c .expected-code .ensures) (stretchBase-below _ _ _ _ _))
+    (omega arith, code-below _ _ (c .expected-code .ensures) (stretchBase-below _ _ _ _ _))
 
 add-list : tie.Need-add-list Inv-loop μ-loop
 add-list c = search needs

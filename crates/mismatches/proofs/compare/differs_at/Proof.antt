@@ -1,13 +1,9 @@
-use Prim.Native.Nat.{ℕ, _+_}
+use Prim.Native.Nat.{_+_}
 use lib.ListN.{getD}
-use mathlib.Core.Bool.{not}
-use lib.Dec.{eqb}
-use Rattle.dna.specs.Reference.{letterOfCode}
 -- `mismatches::compare::differs_at` meets its contract. Assumes nothing.
-use native.Mathlib.Omega.{arith}
-use mathlib.Core.Path.{_≡_, refl, sym, ap, _∙_}
+use mathlib.Core.Path.{refl, sym}
 use Rattle.reference.proofs.Codes.{code-small}
-use Rattle.mismatches.proofs.CodeLaws.{stretchBase-below, differs-n, differs-other}
+use Rattle.mismatches.proofs.CodeLaws.{stretchBase-below, differs-n, differs-plain}
 use borrow.Author.Needs.{needs}
 use Rattle.mismatches.proofs.compare.differs_at.Statement.{statement}
 use Rattle.mismatches.proofs.compare.differs_at.Tie as tie
@@ -37,11 +33,10 @@ returns-2 c =
     let other = c .before .before .if1 .left in
     let start = c .before .before .before .before .before .before in
     let a = start .args in
-    let letter : ℕ = getD (a .letters .now) (a .start + a .place) 0 in
-    ap (λ (l : ℕ). not (eqb letter l))
-    (c .letter-of-code .ensures ∙ ap letterOfCode (c .before .expected-code .ensures))
-    ∙ differs-other (a .letters .now) (a .start) (a .aligned) (start .pre .0) (a .reference .now)
-    (a .forward) (a .leftmost) (a .place) letter (start .pre .2) refl other
+    differs-plain (a .letters .now) (a .start) (a .aligned) (start .pre .0) (a .reference .now)
+    (a .forward) (a .leftmost) (a .place) (getD (a .letters .now) (a .start + a .place) 0)
+    (start .pre .2) refl other (c .before .expected-code .result) (c .letter-of-code .result)
+    (c .before .expected-code .ensures) (c .letter-of-code .ensures)
 
 pub differs-at-spec : {M : Type 1} → statement M
 differs-at-spec =

@@ -1,12 +1,12 @@
 use borrow.Author.Needs.{needs}
 -- `mismatches::compare::next_difference` meets its contract. The invariant: no letter that was passed
 -- differs. The measure is what is left. Assumes nothing.
-use Prim.Native.Nat.{ℕ, _+_, _-_, _≤_, _<_}
+use Prim.Native.Nat.{_-_, _≤_}
 use native.Mathlib.Omega.{arith}
-use mathlib.Core.Path.{_≡_, sym, _∙_}
-use Rattle.mismatches.specs.Places.{NoneBetween, FirstWhere}
+use Rattle.mismatches.specs.Places.{NoneBetween}
 use Rattle.mismatches.specs.Entries.{differsOn}
 use Rattle.mismatches.proofs.PlaceLaws.{none-here, none-then, none-more}
+use Rattle.mismatches.proofs.PlaceLaws.{first-found, first-none}
 use Rattle.mismatches.proofs.compare.next_difference.Statement.{statement}
 use Rattle.mismatches.proofs.compare.next_difference.Tie as tie
 
@@ -30,12 +30,9 @@ differs-at-requires c κs = search needs
 returns : tie.Need-returns Inv-loop μ-loop
 returns c =
     let found = c .before .before .before in
-    let passed = found .skip-equal .ensures .1 in
-    record {
-      passed = none-then (found .before .before .loop .inv .1) passed;
-      inside = omega arith;
-      holds = λ inside. sym (c .before .differs-at .ensures) ∙ c .if2 .taken;
-    }
+    let passed = none-then (found .before .before .loop .inv .1) (found .skip-equal .ensures .1) in
+    first-found _ passed (c .before .before .if1 .taken) (c .before .differs-at .result)
+    (c .before .differs-at .ensures) (c .if2 .taken)
 
 add-place : tie.Need-add-place Inv-loop μ-loop
 add-place c = search needs
@@ -46,10 +43,10 @@ loop-less c = search needs
 loop-again : tie.Need-loop-again Inv-loop μ-loop
 loop-again c =
     let found = c .before .before .before in
-    let passed = found .skip-equal .ensures .1 in (
+    let passed = none-then (found .before .before .loop .inv .1) (found .skip-equal .ensures .1) in (
       omega arith,
-      none-more (none-then (found .before .before .loop .inv .1) passed)
-          (sym (c .before .differs-at .ensures) ∙ c .if2 .left),
+      none-more passed (c .before .differs-at .result) (c .before .differs-at .ensures)
+          (c .if2 .left),
     )
 
 loop-less-2 : tie.Need-loop-less-2 Inv-loop μ-loop
@@ -57,17 +54,13 @@ loop-less-2 c = search needs
 
 loop-again-2 : tie.Need-loop-again-2 Inv-loop μ-loop
 loop-again-2 c =
-    let found = c .before in
-    (found .skip-equal .ensures .0, none-then (found .before .before .loop .inv .1) (found .skip-equal .ensures .1))
+    let skipped = c .before .skip-equal .ensures in
+    (skipped .0, none-then (c .before .before .before .loop .inv .1) (skipped .1))
 
 returns-2 : tie.Need-returns-2 Inv-loop μ-loop
 returns-2 c =
     let l = c .before .loop in
-    record {
-      passed = l .inv .1;
-      inside = l .inv .0;
-      holds = λ inside. absurd (omega arith);
-    }
+    first-none _ (l .inv .1) (l .inv .0) (c .loop-test .left)
 
 pub next-difference-spec : {M : Type 1} → statement M
 next-difference-spec =
