@@ -98,7 +98,8 @@ module _ (letters : List ℕ) (start aligned : ℕ) (inside : start + aligned �
     coded = getD-alignedCodes k low ∙ ap codeOfLetter (sym is)
 
     -- A letter under N is no difference.
-    pub differs-n : letter ≡ 78 → differsOn letters start reference forward leftmost aligned k ≡ false
+    pub differs-n : letter ≡ 78
+        → differsOn letters start reference forward leftmost aligned k ≡ false
     unfolding differsAt codeOfLetter indexOf
     differs-n n = rw (coded, n)
 

@@ -1,67 +1,25 @@
--- The entries of one gap, written into a list: its fillers and then the difference. Assumes nothing.
-use mathlib.Core.Path.{_≡_, refl, sym, ap, _∙_}
-use Prim.Native.Nat.{ℕ, suc, _+_, _-_, _*_, _≤_, _<_}
+-- The entries of one gap, written into a list: its fillers and then the difference. Assumes
+-- nothing.
+use mathlib.Core.Path.{_≡_, sym, ap, _∙_}
+use Prim.Native.Nat.{ℕ, suc, _+_, _-_, _*_, _<_}
 use native.Mathlib.Omega.{arith}
 use mathlib.Core.List.{List, [], _∷_, _++_, map, map-append}
 use lib.ListN.{length, set, length-append, length-map}
-use borrow.Author.Tests.{le-leb, lt-leb}
 use Rattle.base.specs.Lists.{build}
 use Rattle.base.specs.Paste.{pasted}
-use Rattle.base.proofs.AnswerLaws.{cond-yes, cond-no}
-use Rattle.base.proofs.ListLaws.{by-order, length-build, build-snoc}
+use Rattle.base.proofs.ListLaws.{length-build, build-snoc}
 use Rattle.base.proofs.PasteLaws.{pasted-nil, pasted-snoc}
-use Rattle.dna.specs.Record.{maxEntries, maxEntryOffset, Entry, entryByte}
+use Rattle.dna.specs.Record.{maxEntryOffset, entryByte}
 use Rattle.format.specs.RuleEntries.{fillerCount, gapEntries}
-use Rattle.mismatches.specs.Entries.{fillersFrom, answeredCount, EntriesPut}
-
--- ---- The count
-
-answered-few : (count : ℕ) → count ≤ maxEntries → answeredCount count ≡ count
-unfolding answeredCount
-answered-few count few = cond-yes _ (le-leb count maxEntries few) refl
-
-answered-many : (count : ℕ) → maxEntries < count → answeredCount count ≡ suc maxEntries
-unfolding answeredCount
-answered-many count many = cond-no count (lt-leb count maxEntries many) refl
-
-module _ {old new : List ℕ} {at : ℕ} {entries : List Entry} {answer : ℕ} where
-  -- They fit.
-  pub put-few : at + length entries ≤ maxEntries → answer ≡ at + length entries
-      → new ≡ pasted old at (map entryByte entries) → EntriesPut old new at entries answer
-  put-few few is e =
-      record { counted = is ∙ sym (answered-few (at + length entries) few); stand = λ h. e }
-
-  -- There are more.
-  pub put-many : maxEntries < at + length entries → answer ≡ suc maxEntries
-      → EntriesPut old new at entries answer
-  put-many many is =
-      record {
-        counted = is ∙ sym (answered-many (at + length entries) many);
-        stand = λ few. absurd (omega arith);
-      }
-
-  module _ (put : EntriesPut old new at entries answer) where
-    -- What is answered says whether they fit.
-    pub put-within : answer ≤ maxEntries
-        → (answer ≡ at + length entries) × (new ≡ pasted old at (map entryByte entries))
-    put-within within =
-        by-order maxEntries (at + length entries)
-        (λ many. absurd (omega (arith, put .counted, answered-many (at + length entries) many)))
-        (λ few. (put .counted ∙ answered-few (at + length entries) few, put .stand few))
-
-    pub put-over : maxEntries < answer
-        → (maxEntries < at + length entries) × (answer ≡ suc maxEntries)
-    put-over over =
-        by-order maxEntries (at + length entries)
-        (λ many. (many, put .counted ∙ answered-many (at + length entries) many))
-        (λ few. absurd (omega (arith, put .counted, answered-few (at + length entries) few)))
+use Rattle.mismatches.specs.Entries.{fillersFrom}
 
 -- ---- Fillers
 
 module _ (expected : ℕ → ℕ) (place : ℕ) where
   length-fillers : (count : ℕ) → length (map entryByte (fillersFrom expected place count)) ≡ count
   unfolding fillersFrom
-  length-fillers count = length-map (fillersFrom expected place count) entryByte ∙ length-build count _
+  length-fillers count =
+      length-map (fillersFrom expected place count) entryByte ∙ length-build count _
 
   module _ (buffer : List ℕ) (at : ℕ) where
     pub fillers-none : buffer ≡ pasted buffer at (map entryByte (fillersFrom expected place 0))
@@ -77,13 +35,12 @@ module _ (expected : ℕ → ℕ) (place : ℕ) where
         ≡ pasted buffer at (map entryByte (fillersFrom expected place (k + 1)))
     unfolding fillersFrom
     fillers-turn out k there code byte room e where′ given is =
-        let size : length (map entryByte (fillersFrom expected place k)) ≡ k = length-fillers k in
+        let part : List ℕ = map entryByte (fillersFrom expected place k) in
+        let size : length part ≡ k = length-fillers k in
         let more : there ≡ place + maxEntryOffset * suc k = omega arith in
-        pasted-snoc buffer out at (at + k) (map entryByte (fillersFrom expected place k)) byte
-        (omega arith) (omega arith) e
+        pasted-snoc buffer out at (at + k) part byte (omega arith) (omega arith) e
         ∙ ap (pasted buffer at)
-        (ap
-        (λ (x : ℕ). map entryByte (fillersFrom expected place k) ++ (x ∷ []))
+        (ap (λ (x : ℕ). part ++ (x ∷ []))
         (is
         ∙ ap (λ (x : ℕ). entryByte (record { offset = maxEntryOffset; code = x }))
         (given ∙ ap expected more))
@@ -91,7 +48,8 @@ module _ (expected : ℕ → ℕ) (place : ℕ) where
         ∙ ap (map entryByte)
         (sym
         (build-snoc k
-        (λ j. record { offset = maxEntryOffset; code = expected (place + maxEntryOffset * suc j) }))))
+        (λ j.
+        record { offset = maxEntryOffset; code = expected (place + maxEntryOffset * suc j) }))))
 
   -- ---- A gap
 
@@ -122,13 +80,10 @@ module _ (expected : ℕ → ℕ) (place : ℕ) where
         ≡ pasted buffer at
         (map entryByte (gapEntries expected place (record { gap = gap; code = code })))
     gap-written buffer out at byte room e is =
-        let size : length (map entryByte (fillersFrom expected place fillers)) ≡ fillers =
-        length-fillers fillers in
-        pasted-snoc buffer out at (at + fillers) (map entryByte (fillersFrom expected place fillers))
-        byte (omega arith) (omega arith) e
+        let part : List ℕ = map entryByte (fillersFrom expected place fillers) in
+        let size : length part ≡ fillers = length-fillers fillers in
+        pasted-snoc buffer out at (at + fillers) part byte (omega arith) (omega arith) e
         ∙ ap (pasted buffer at)
-        (ap
-        (λ (x : ℕ). map entryByte (fillersFrom expected place fillers) ++ (x ∷ []))
-        is
+        (ap (λ (x : ℕ). part ++ (x ∷ [])) is
         ∙ sym (map-append entryByte (fillersFrom expected place fillers) _)
         ∙ ap (map entryByte) (sym gap-entries))

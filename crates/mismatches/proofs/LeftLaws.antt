@@ -13,7 +13,7 @@ use Rattle.mismatches.specs.Places.{NoneBetween, FirstWhere}
 use Rattle.mismatches.specs.Entries.{EntriesPut}
 use Rattle.mismatches.proofs.PlaceLaws.{placesLeft, places-all, places-passed, places-here}
 use Rattle.mismatches.proofs.PlaceLaws.{places-end}
-use Rattle.mismatches.proofs.GapLaws.{put-few, put-many, put-within, put-over}
+use Rattle.mismatches.proofs.PutLaws.{put-few, put-many, put-within, put-over}
 
 module _ (expected : ℕ → ℕ) (codes : List ℕ) (bound : ℕ) where
   -- All entries.

@@ -77,8 +77,8 @@ keep-passed test (suc d) from n none =
     ∙ ap (λ (s : ℕ). keep test (countUp s n)) there)
 
 -- Places at which it does not hold are none of them.
-pub places-passed : {test : ℕ → Bool} {from to : ℕ} (bound : ℕ) → NoneBetween test from to → to ≤ bound
-    → placesLeft test from bound ≡ placesLeft test to bound
+pub places-passed : {test : ℕ → Bool} {from to : ℕ} (bound : ℕ) → NoneBetween test from to
+    → to ≤ bound → placesLeft test from bound ≡ placesLeft test to bound
 unfolding placesLeft
 places-passed {test} {from} {to} bound passed inside =
     let d : ℕ = to - from in

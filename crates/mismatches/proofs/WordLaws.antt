@@ -81,7 +81,8 @@ module _ (letters : List ℕ) (start : ℕ) (reference : List ℕ) (forward : Bo
       (word-below table forward first lent small)
       (sym (le-add 4 4 letters (start + k)) ∙ e) in
       let end : k + 4 + 4 ≡ k + 8 = omega arith in
-      subst (λ (to : ℕ). NoneBetween (differsOn letters start reference forward leftmost aligned) k to)
+      subst
+      (λ (to : ℕ). NoneBetween (differsOn letters start reference forward leftmost aligned) k to)
       end
       (none-then
       (four-passed (start + k) k i first refl (omega arith) one small begins (both .0))

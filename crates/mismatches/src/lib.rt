@@ -1,6 +1,6 @@
-// Where a read differs from the reference, as the entries of a record (01, The writer's fixed rule):
-// differences, and fillers where they are more than 63 letters apart. The contracts cite
-// specs/Entries.antt.
+// Where a read differs from the reference, as the entries of a record (01, The writer's fixed
+// rule): differences, and fillers where they are more than 63 letters apart. The contracts cite
+// specs/Entries.antt; the tables of words are made once and lent to each call.
 pub mod compare;
 
 use compare::expected_code;
@@ -30,8 +30,8 @@ const MAX_ENTRIES: usize = 31;
 
 const MAX_ENTRY_OFFSET: usize = 63;
 
-// Writes the entries of the aligned letters at a stretch, a byte each, to the start of the list, and
-// gives their number; 32 where there are more than 31, given up at the 32nd.
+// Writes the entries of the aligned letters at a stretch to the start of the list, a byte each, and
+// gives their number; 32 where there are more than 31, found before the 32nd is written.
 pub fn put_entries(
     letters: &[u8],
     start: usize,

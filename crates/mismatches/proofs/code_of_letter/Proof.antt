@@ -1,6 +1,6 @@
 -- `mismatches::code_of_letter` meets its contract. Assumes nothing.
-use Rattle.mismatches.proofs.CodeLaws.{letter-shifted}
 use borrow.Author.Needs.{needs}
+use Rattle.mismatches.proofs.CodeLaws.{letter-shifted}
 use Rattle.mismatches.proofs.code_of_letter.Statement.{statement}
 use Rattle.mismatches.proofs.code_of_letter.Tie as tie
 

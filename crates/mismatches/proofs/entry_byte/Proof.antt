@@ -1,6 +1,6 @@
 -- `mismatches::entry_byte` meets its contract. Assumes nothing.
-use Rattle.dna.specs.Record.{entryByte}
 use borrow.Author.Needs.{needs}
+use Rattle.dna.specs.Record.{entryByte}
 use Rattle.mismatches.proofs.entry_byte.Statement.{statement}
 use Rattle.mismatches.proofs.entry_byte.Tie as tie
 

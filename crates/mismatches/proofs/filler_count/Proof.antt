@@ -1,7 +1,7 @@
 -- `mismatches::filler_count` meets its contract. Assumes nothing.
 use native.Mathlib.Omega.{arith}
-use Rattle.format.specs.RuleEntries.{fillerCount}
 use borrow.Author.Needs.{needs}
+use Rattle.format.specs.RuleEntries.{fillerCount}
 use Rattle.mismatches.proofs.filler_count.Statement.{statement}
 use Rattle.mismatches.proofs.filler_count.Tie as tie
 

@@ -1,9 +1,10 @@
-use borrow.Author.Needs.{needs}
--- `mismatches::put_entries` meets its contract. The invariant: the entries of the differences passed
--- stand, and those that are left complete them. The measure is what is left. Assumes nothing.
+-- `mismatches::put_entries` meets its contract. The invariant: the entries of the differences
+-- passed stand, and those that are left complete them. The measure is what is left. Assumes
+-- nothing.
 use Prim.Native.Nat.{_-_, _≤_}
 use native.Mathlib.Omega.{arith}
 use mathlib.Core.Path.{sym, _∙_}
+use borrow.Author.Needs.{needs}
 use Rattle.dna.specs.Record.{maxEntries}
 use Rattle.mismatches.specs.Entries.{stretchBase, alignedCodes, stretchEntries}
 use Rattle.mismatches.proofs.CodeLaws.{length-alignedCodes, getD-alignedCodes}
@@ -14,13 +15,15 @@ use Rattle.mismatches.proofs.put_entries.Statement.{statement}
 use Rattle.mismatches.proofs.put_entries.Tie as tie
 
 abbrev Inv-loop : tie.InvT-loop
-Inv-loop letters start aligned reference forward leftmost forward-table reverse-table list₀ count₀ before₀ place₀ list count before place =
+Inv-loop letters start aligned reference forward leftmost forward-table reverse-table list₀ count₀
+    before₀ place₀ list count before place =
     (place ≤ aligned) × (before ≤ place) × (count ≤ maxEntries)
     × (Writing (stretchBase reference forward leftmost aligned)
     (alignedCodes letters start aligned) aligned list₀ list count before place)
 
 abbrev μ-loop : tie.MeasureT-loop
-μ-loop letters start aligned reference forward leftmost forward-table reverse-table list₀ count₀ before₀ place₀ list count before place =
+μ-loop letters start aligned reference forward leftmost forward-table reverse-table list₀ count₀
+    before₀ place₀ list count before place =
     aligned - place
 
 loop-holds : tie.Need-loop-holds Inv-loop μ-loop

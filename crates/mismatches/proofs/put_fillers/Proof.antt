@@ -1,15 +1,15 @@
-use Rattle.mismatches.proofs.GapLaws.{fillers-none, fillers-turn}
-use borrow.Author.Needs.{needs}
--- `mismatches::put_fillers` meets its contract. The invariant: the fillers passed stand. The measure is
--- what is left. Assumes nothing.
+-- `mismatches::put_fillers` meets its contract. The invariant: the fillers passed stand. The
+-- measure is what is left. Assumes nothing.
 use Prim.Native.Nat.{ℕ, _+_, _-_, _*_, _≤_}
 use native.Mathlib.Omega.{arith}
 use mathlib.Core.Path.{_≡_, refl, ap, _∙_}
-use lib.ListN.{length, length-set}
-use Rattle.base.specs.Paste.{pasted}
 use mathlib.Core.List.{map}
+use lib.ListN.{length, length-set}
+use borrow.Author.Needs.{needs}
+use Rattle.base.specs.Paste.{pasted}
 use Rattle.dna.specs.Record.{entryByte}
 use Rattle.mismatches.specs.Entries.{stretchBase, fillersFrom}
+use Rattle.mismatches.proofs.GapLaws.{fillers-none, fillers-turn}
 use Rattle.mismatches.proofs.CodeLaws.{stretchBase-below, code-below}
 use Rattle.mismatches.proofs.put_fillers.Statement.{statement}
 use Rattle.mismatches.proofs.put_fillers.Tie as tie

@@ -1,10 +1,11 @@
 -- `mismatches::put_gap` meets its contract. Assumes nothing.
 use Prim.Native.Nat.{_-_}
 use native.Mathlib.Omega.{arith}
+use borrow.Author.Needs.{needs}
 use Rattle.format.specs.RuleEntries.{fillerCount}
 use Rattle.mismatches.specs.Entries.{stretchBase}
-use Rattle.mismatches.proofs.GapLaws.{put-few, put-many, length-gap, gap-written}
-use borrow.Author.Needs.{needs}
+use Rattle.mismatches.proofs.PutLaws.{put-few, put-many}
+use Rattle.mismatches.proofs.GapLaws.{length-gap, gap-written}
 use Rattle.mismatches.proofs.put_gap.Statement.{statement}
 use Rattle.mismatches.proofs.put_gap.Tie as tie
 

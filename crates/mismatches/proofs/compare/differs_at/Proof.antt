@@ -1,10 +1,10 @@
-use Prim.Native.Nat.{_+_}
-use lib.ListN.{getD}
 -- `mismatches::compare::differs_at` meets its contract. Assumes nothing.
+use Prim.Native.Nat.{_+_}
 use mathlib.Core.Path.{refl, sym}
+use lib.ListN.{getD}
+use borrow.Author.Needs.{needs}
 use Rattle.reference.proofs.Codes.{code-small}
 use Rattle.mismatches.proofs.CodeLaws.{stretchBase-below, differs-n, differs-plain}
-use borrow.Author.Needs.{needs}
 use Rattle.mismatches.proofs.compare.differs_at.Statement.{statement}
 use Rattle.mismatches.proofs.compare.differs_at.Tie as tie
 
@@ -26,7 +26,8 @@ expected-code-requires : tie.Need-expected-code-requires
 expected-code-requires c κs = search needs
 
 letter-of-code-requires : tie.Need-letter-of-code-requires
-letter-of-code-requires c κs = code-small _ _ (c .expected-code .ensures) (stretchBase-below _ _ _ _ _)
+letter-of-code-requires c κs =
+    code-small _ _ (c .expected-code .ensures) (stretchBase-below _ _ _ _ _)
 
 returns-2 : tie.Need-returns-2
 returns-2 c =

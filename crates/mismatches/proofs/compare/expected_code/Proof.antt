@@ -1,10 +1,10 @@
 -- `mismatches::compare::expected_code` meets its contract. Assumes nothing.
 use native.Mathlib.Omega.{arith}
 use mathlib.Core.Path.{_∙_, ap}
+use borrow.Author.Needs.{needs}
 use Rattle.dna.specs.Reference.{strandBase}
 use Rattle.dna.proofs.ReferenceLaws.{stretchIndex-inside}
 use Rattle.mismatches.specs.Entries.{stretchBase}
-use borrow.Author.Needs.{needs}
 use Rattle.mismatches.proofs.compare.expected_code.Statement.{statement}
 use Rattle.mismatches.proofs.compare.expected_code.Tie as tie
 

@@ -1,22 +1,25 @@
-use borrow.Author.Needs.{needs}
--- `mismatches::compare::next_difference` meets its contract. The invariant: no letter that was passed
--- differs. The measure is what is left. Assumes nothing.
+-- `mismatches::compare::next_difference` meets its contract. The invariant: no letter that was
+-- passed differs. The measure is what is left. Assumes nothing.
 use Prim.Native.Nat.{_-_, _≤_}
 use native.Mathlib.Omega.{arith}
+use borrow.Author.Needs.{needs}
 use Rattle.mismatches.specs.Places.{NoneBetween}
 use Rattle.mismatches.specs.Entries.{differsOn}
-use Rattle.mismatches.proofs.PlaceLaws.{none-here, none-then, none-more}
-use Rattle.mismatches.proofs.PlaceLaws.{first-found, first-none}
+use Rattle.mismatches.proofs.PlaceLaws.{none-here, none-then, none-more, first-found}
+use Rattle.mismatches.proofs.PlaceLaws.{first-none}
 use Rattle.mismatches.proofs.compare.next_difference.Statement.{statement}
 use Rattle.mismatches.proofs.compare.next_difference.Tie as tie
 
 abbrev Inv-loop : tie.InvT-loop
-Inv-loop letters start from aligned reference forward leftmost forward-table reverse-table place₀ place =
+Inv-loop letters start from aligned reference forward leftmost forward-table reverse-table place₀
+    place =
     (place ≤ aligned)
     × (NoneBetween (differsOn letters start reference forward leftmost aligned) from place)
 
 abbrev μ-loop : tie.MeasureT-loop
-μ-loop letters start from aligned reference forward leftmost forward-table reverse-table place₀ place = aligned - place
+μ-loop letters start from aligned reference forward leftmost forward-table reverse-table place₀
+    place =
+    aligned - place
 
 loop-holds : tie.Need-loop-holds Inv-loop μ-loop
 loop-holds c = (omega arith, none-here _ _)
@@ -30,7 +33,8 @@ differs-at-requires c κs = search needs
 returns : tie.Need-returns Inv-loop μ-loop
 returns c =
     let found = c .before .before .before in
-    let passed = none-then (found .before .before .loop .inv .1) (found .skip-equal .ensures .1) in
+    let skipped = found .skip-equal .ensures in
+    let passed = none-then (found .before .before .loop .inv .1) (skipped .1) in
     first-found _ passed (c .before .before .if1 .taken) (c .before .differs-at .result)
     (c .before .differs-at .ensures) (c .if2 .taken)
 
@@ -43,7 +47,8 @@ loop-less c = search needs
 loop-again : tie.Need-loop-again Inv-loop μ-loop
 loop-again c =
     let found = c .before .before .before in
-    let passed = none-then (found .before .before .loop .inv .1) (found .skip-equal .ensures .1) in (
+    let skipped = found .skip-equal .ensures in
+    let passed = none-then (found .before .before .loop .inv .1) (skipped .1) in (
       omega arith,
       none-more passed (c .before .differs-at .result) (c .before .differs-at .ensures)
           (c .if2 .left),

@@ -1,7 +1,7 @@
 -- `mismatches::compare::skip_equal` meets its contract: the strand decides. Assumes nothing.
 use native.Mathlib.Omega.{arith}
-use Rattle.mismatches.proofs.PlaceLaws.{none-here}
 use borrow.Author.Needs.{needs}
+use Rattle.mismatches.proofs.PlaceLaws.{none-here}
 use Rattle.mismatches.proofs.compare.skip_equal.Statement.{statement}
 use Rattle.mismatches.proofs.compare.skip_equal.Tie as tie
 

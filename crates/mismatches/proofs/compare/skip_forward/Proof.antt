@@ -1,12 +1,11 @@
-use mathlib.Core.Path.{refl}
-use lib.ListN.{getD}
-use borrow.Author.Needs.{needs}
 -- `mismatches::compare::skip_forward` meets its contract. The invariant: no letter that was passed
 -- differs, and the reference is at the boundary of a byte. Assumes nothing.
 use Prim.Native.Nat.{_+_, _-_, _/_, _%_, _≤_}
 use native.Mathlib.Omega.{arith}
-use mathlib.Core.Path.{_≡_, sym, _∙_}
+use mathlib.Core.Path.{refl, _≡_, sym, _∙_}
 use mathlib.Core.Bool.{true}
+use lib.ListN.{getD}
+use borrow.Author.Needs.{needs}
 use Rattle.mismatches.specs.Places.{NoneBetween}
 use Rattle.mismatches.specs.Entries.{differsOn}
 use Rattle.mismatches.proofs.PlaceLaws.{none-here, none-then}
@@ -23,9 +22,7 @@ abbrev μ-loop : tie.MeasureT-loop
 μ-loop letters start from aligned reference leftmost table place₀ place = aligned - place
 
 loop-holds : tie.Need-loop-holds Inv-loop μ-loop
-loop-holds c =
-    let start = c .before .before in
-    (omega arith, omega arith, none-here _ _)
+loop-holds c = (omega arith, omega arith, none-here _ _)
 
 add-loop : tie.Need-add-loop Inv-loop μ-loop
 add-loop c = search needs

@@ -1,7 +1,7 @@
-use mathlib.Core.Path.{ap, ap₂, _∙_}
-use Prim.Native.Nat.{ℕ, _+_, _*_}
-use lib.ListN.{getD}
 -- `mismatches::compare::two_words` meets its contract. Assumes nothing.
+use Prim.Native.Nat.{ℕ, _+_, _*_}
+use mathlib.Core.Path.{ap, ap₂, _∙_}
+use lib.ListN.{getD}
 use borrow.Author.Needs.{needs}
 use Rattle.mismatches.proofs.compare.two_words.Statement.{statement}
 use Rattle.mismatches.proofs.compare.two_words.Tie as tie
