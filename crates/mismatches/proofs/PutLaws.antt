@@ -1,6 +1,7 @@
 -- What writing entries answers: their number up to 31, and 32 for more. Assumes nothing.
-use mathlib.Core.Path.{_≡_, refl, sym, _∙_}
+use mathlib.Core.Path.{_≡_, refl, sym, ap, _∙_}
 use Prim.Native.Nat.{ℕ, suc, _+_, _≤_, _<_}
+use native.Mathlib.Nat.{zero-add}
 use native.Mathlib.Omega.{arith}
 use mathlib.Core.List.{List, map}
 use lib.ListN.{length}
@@ -50,3 +51,13 @@ module _ {old new : List ℕ} {at : ℕ} {entries : List Entry} {answer : ℕ} w
         by-order maxEntries (at + length entries)
         (λ many. (many, put .counted ∙ answered-many (at + length entries) many))
         (λ few. absurd (omega (arith, put .counted, answered-few (at + length entries) few)))
+
+-- Entries at the start of a list, without the index.
+pub put-all : {old new : List ℕ} {entries : List Entry} {answer : ℕ}
+    → EntriesPut old new 0 entries answer
+    → (answer ≡ answeredCount (length entries))
+    × (length entries ≤ maxEntries → new ≡ pasted old 0 (map entryByte entries))
+put-all {entries = entries} put = (
+  put .counted ∙ ap answeredCount (zero-add (length entries)),
+  λ few. put .stand (omega arith),
+)

@@ -61,7 +61,7 @@ pub fn next_difference(
 }
 
 // Passes over letters from `from` on that are as the reference gives them, eight at once, where the
-// reference is at the boundary of a byte.
+// reference is at the boundary of a byte: the first letter that is not passed.
 fn skip_equal(
     letters: &[u8],
     start: usize,
@@ -111,7 +111,7 @@ fn skip_equal(
     from
 }
 
-// The same on the forward strand, from the boundary of a byte on.
+// The same on the forward strand, at the boundary of a byte.
 fn skip_forward(
     letters: &[u8],
     start: usize,
@@ -143,7 +143,7 @@ fn skip_forward(
     place
 }
 
-// The same on the reverse strand, which takes the bytes of the reference backwards.
+// The same on the reverse strand, which takes the bytes of the reference from the last on.
 fn skip_reverse(
     letters: &[u8],
     start: usize,
@@ -183,7 +183,7 @@ fn two_words(table: &[u32; 256], first: u8, second: u8) -> u64
     wide64(table[size8(first)]) + 4294967296 * wide64(table[size8(second)])
 }
 
-// Whether an aligned letter differs from the reference.
+// Whether an aligned letter differs from the reference; a letter under N does not.
 fn differs_at(
     letters: &[u8],
     start: usize,
@@ -200,7 +200,7 @@ fn differs_at(
         leftmost aligned place ⌝ }
 {
     let letter = letters[start + place];
-    if letter == 78 {
+    if letter == b'N' {
         return false;
     }
     letter != letter_of_code(expected_code(reference, forward, leftmost, aligned, place))
