@@ -1,6 +1,6 @@
 -- How each read is stored, by its index. Assumes nothing.
 use mathlib.Core.Path.{_≡_, refl, sym, ap, _∙_}
-use Prim.Native.Nat.{ℕ, zero, suc, _+_, _-_, _*_, _/_, _≤_, _<_}
+use Prim.Native.Nat.{ℕ, zero, suc, _+_, _-_, _≤_, _<_}
 use native.Mathlib.Nat.{not-suc-le-zero, le-of-suc-le-suc}
 use native.Mathlib.Omega.{arith}
 use mathlib.Core.Bool.{Bool, true, false, cond}
@@ -12,7 +12,7 @@ use borrow.Author.Tests.{lt-ltb, le-ltb, eq-eqb, ne-eqb}
 use Rattle.base.specs.Lists.{part, stepsFrom}
 use Rattle.base.proofs.StepsLaws.{length-stepsFrom, stepsFrom-first, stepsFrom-later}
 use Rattle.dna.specs.Sizes.{StoredSize, same, inByte, inWords, storedBytes}
-use Rattle.dna.proofs.SizeBytesLaws.{length-varint16}
+use Rattle.dna.specs.Varint16.{varint16Bytes}
 use Rattle.format.specs.RuleBlock.{storedFrom}
 use Rattle.format.proofs.WrittenSizes.{length-storedFrom}
 use Rattle.lengths.specs.Form.{storedOf, storedAfter, noLength, endBefore, lengthBefore}
@@ -45,14 +45,10 @@ module _ (previous size : ℕ) where
       sym (ap (λ (s : StoredSize). length (storedBytes s)) (after-byte other small))
 
   pub length-words : (size ≡ previous → ⊥) → 256 ≤ size
-      → (size / 32768 + 1) * 2 ≡ length (storedBytes (storedAfter previous size))
+      → length (varint16Bytes size) ≡ length (storedBytes (storedAfter previous size))
   unfolding storedBytes
   length-words other large =
-      omega (
-        arith,
-        ap (λ (s : StoredSize). length (storedBytes s)) (after-words other large),
-        length-varint16 size,
-      )
+      sym (ap (λ (s : StoredSize). length (storedBytes s)) (after-words other large))
 
 -- ---- Stored sizes by index
 

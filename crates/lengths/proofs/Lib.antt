@@ -9,7 +9,6 @@ pub mod FixedLaws
 pub mod GivenLaws
 pub mod FormLaws
 pub mod FlagLaws
-pub mod WrittenWords
 pub mod WrittenSize
 pub mod WritingLaws
 pub mod EqualLaws

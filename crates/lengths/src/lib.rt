@@ -3,6 +3,7 @@
 // section. The contracts cite specs/Cursor.antt and specs/Given.antt; none has a `requires`.
 use dna::refusals::DNA_SIZE_WRONG;
 use dna::refusals::LENGTHS_INVALID;
+use varint16::WORD_ESCAPE;
 ghost use mathlib.Core.Path.{_≡_};
 ghost use mathlib.Core.Bool.{cond};
 ghost use Prim.Native.Nat.{_+_};
@@ -33,9 +34,6 @@ pub mod write;
 
 // The most letters that a read may have.
 const MAX_READ_LENGTH: u32 = 100_000;
-
-// The word that says that another follows.
-pub const WORD_ESCAPE: u32 = 32768;
 
 // Where a walk over the lengths stands.
 pub struct SizeCursor {

@@ -2,13 +2,13 @@
 // two ends. The contracts cite specs/Form.antt, specs/Sizes.antt of dna and specs/Paste.antt of
 // base. Each `requires` of a public function is one that encoding has tested before: at most 50,000
 // reads, and room for the bytes.
-use super::WORD_ESCAPE;
+use varint16::put_words;
+use varint16::words_length;
 ghost use mathlib.Core.Path.{_≡_};
 ghost use Prim.Native.Nat.{_+_, _-_, _≤_, _<_, min};
 ghost use lib.ListN.{length, getD};
 ghost use Rattle.base.specs.Lists.{part, stepsFrom};
 ghost use Rattle.base.specs.Paste.{pasted};
-ghost use Rattle.dna.specs.Varint16.{varint16Bytes};
 ghost use Rattle.dna.specs.Sizes.{storedBytes, sizeGroupBytes, sizeSectionBytes};
 ghost use Rattle.format.specs.HeaderFaults.{maxReads};
 ghost use Rattle.format.specs.RuleBlock.{allEqual};
@@ -139,7 +139,7 @@ fn stored_length(size: u32, previous: u64) -> usize
     if size < BYTE_LIMIT {
         return 1;
     }
-    (integers::size32(size / WORD_ESCAPE) + 1) * 2
+    words_length(size)
 }
 
 // Writes a length after one of `previous` letters: same bit before byte-size bit before words.
@@ -171,44 +171,6 @@ fn put_size(size: u32, previous: u64, out: &mut [u8], writer: GroupWriter) -> Gr
         place: put_words(size, out, at),
         flags: flags,
     }
-}
-
-// Writes a length in words. One or two words of 32768 need no branch: where there is one, the last
-// word is written over the second.
-fn put_words(size: u32, out: &mut [u8], at: usize) -> usize
-    requires { ⌜ at + length (varint16Bytes size) ≤ length (now out) ⌝ }
-    ensures { λ r. ⌜ (now (out .exit) ≡ pasted (now (out .entry)) at (varint16Bytes size))
-        × (r ≡ at + length (varint16Bytes size)) ⌝ }
-{
-    if size < WORD_ESCAPE {
-        integers::put_u16(out, at, size as u16);
-        return at + 2;
-    }
-    let escapes = integers::size32(size / WORD_ESCAPE);
-    if 2 < escapes {
-        return put_many_words(size, out, at);
-    }
-    integers::put_u16(out, at, WORD_ESCAPE as u16);
-    integers::put_u16(out, at + 2, WORD_ESCAPE as u16);
-    integers::put_u16(out, at + escapes * 2, (size % WORD_ESCAPE) as u16);
-    at + escapes * 2 + 2
-}
-
-// Writes a length in any number of words.
-fn put_many_words(size: u32, out: &mut [u8], at: usize) -> usize
-    requires { ⌜ at + length (varint16Bytes size) ≤ length (now out) ⌝ }
-    ensures { λ r. ⌜ (now (out .exit) ≡ pasted (now (out .entry)) at (varint16Bytes size))
-        × (r ≡ at + length (varint16Bytes size)) ⌝ }
-{
-    let mut left = size;
-    let mut place = at;
-    while WORD_ESCAPE <= left {
-        integers::put_u16(out, place, WORD_ESCAPE as u16);
-        place += 2;
-        left -= WORD_ESCAPE;
-    }
-    integers::put_u16(out, place, left as u16);
-    place + 2
 }
 
 // ---- Lengths from ends

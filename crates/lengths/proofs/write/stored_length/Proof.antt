@@ -1,6 +1,5 @@
 -- `lengths::write::stored_length` meets its contract, for each of the three ways. Assumes nothing.
-use mathlib.Core.Path.{_≡_, sym, ap, _∙_}
-use Prim.Native.Nat.{ℕ, _+_, _*_}
+use mathlib.Core.Path.{_≡_, sym, _∙_}
 use native.Mathlib.Omega.{arith}
 use Rattle.lengths.proofs.FormLaws.{length-same, length-byte, length-words}
 use borrow.Author.Needs.{needs}
@@ -26,25 +25,18 @@ returns-2 c =
     let a = c .before .before .before .args in
     (length-byte (a .previous) (a .size) (other (c .before)) (c .if2 .taken), omega arith)
 
-size32-requires : tie.Need-size32-requires
-size32-requires c κs = search needs
-
-add-result : tie.Need-add-result
-add-result c = search needs
-
-mul-result : tie.Need-mul-result
-mul-result c = search needs
+words-length-requires : tie.Need-words-length-requires
+words-length-requires c κs = search needs
 
 returns-3 : tie.Need-returns-3
 returns-3 c =
     let past = c .before in
     let a = past .before .before .before .args in (
-      ap (λ (n : ℕ). (n + 1) * 2) (c .size32 .ensures .0)
+      c .words-length .ensures .0
           ∙ length-words (a .previous) (a .size) (other (past .before)) (past .if2 .left),
-      omega (arith, c .size32 .ensures .0),
+      c .words-length .ensures .1,
     )
 
 pub stored-length-spec : {M : Type 1} → statement M
 stored-length-spec =
-    tie.close
-    (tie.spec wide64-requires returns returns-2 size32-requires add-result mul-result returns-3)
+    tie.close (tie.spec wide64-requires returns returns-2 words-length-requires returns-3)

@@ -1,12 +1,12 @@
--- `lengths::write::put_words` meets its contract: what is written over is not seen.
+-- `varint16::put_words` meets its contract: what is written over is not seen.
 -- Assumes nothing.
 use Prim.Native.Nat.{_+_, _*_, _≤_}
 use native.Mathlib.Omega.{arith}
 use lib.ListN.{length}
-use Rattle.lengths.proofs.WrittenWords.{one-room, one-word, few-some, few-room, few-words}
+use Rattle.varint16.proofs.WrittenWords.{one-room, one-word, few-some, few-room, few-words}
 use borrow.Author.Needs.{needs}
-use Rattle.lengths.proofs.write.put_words.Statement.{statement}
-use Rattle.lengths.proofs.write.put_words.Tie as tie
+use Rattle.varint16.proofs.put_words.Statement.{statement}
+use Rattle.varint16.proofs.put_words.Tie as tie
 
 -- There is room for the words, of which one or two are 32768.
 room : (c : tie.Else2)
@@ -14,13 +14,13 @@ room : (c : tie.Else2)
     ≤ length (c .before .before .before .before .args .out .now)
 room c =
     let a = c .before .before .before .before .args in
-    few-room (a .out .now) (a .at) (a .size) (omega arith) (c .before .size32 .result)
+    few-room (a .out .now) (a .at) (a .number) (omega arith) (c .before .size32 .result)
     (c .before .size32 .ensures .0) (c .before .before .if1 .left) (c .if2 .left)
 
 some : (c : tie.Else2) → 1 ≤ c .before .size32 .result
 some c =
     let a = c .before .before .before .before .args in
-    few-some (a .out .now) (a .at) (a .size) (omega arith) (c .before .size32 .result)
+    few-some (a .out .now) (a .at) (a .number) (omega arith) (c .before .size32 .result)
     (c .before .size32 .ensures .0) (c .before .before .if1 .left) (c .if2 .left)
 
 cast-put-u16 : tie.Need-cast-put-u16
@@ -29,7 +29,7 @@ cast-put-u16 c = search needs
 put-u16-requires : tie.Need-put-u16-requires
 put-u16-requires c κs =
     let a = c .before .before .before .args in
-    one-room (a .out .now) (a .at) (a .size) (omega arith)
+    one-room (a .out .now) (a .at) (a .number) (omega arith)
 
 add-result : tie.Need-add-result
 add-result c = search needs
@@ -42,7 +42,7 @@ returns c =
     let put = c .before .before in
     let small = put .before .before in
     let a = small .before .before .args in
-    one-word (a .out .now) (a .at) (a .size) (omega arith) _ (small .if1 .taken)
+    one-word (a .out .now) (a .at) (a .number) (omega arith) _ (small .if1 .taken)
     (put .put-u16 .ensures)
 
 size32-requires : tie.Need-size32-requires
@@ -111,7 +111,7 @@ returns-3 c =
     let few = first .before .before in
     let large = few .before .before in
     let a = large .before .before .args in
-    few-words (a .out .now) (a .at) (a .size) (omega arith) (few .before .size32 .result)
+    few-words (a .out .now) (a .at) (a .number) (omega arith) (few .before .size32 .result)
     (few .before .size32 .ensures .0) (large .if1 .left) (few .if2 .left) _ _ _
     (first .put-u162 .ensures) (second .put-u163 .ensures) (third .put-u164 .ensures)
 

@@ -1,4 +1,4 @@
--- `lengths::write::put_many_words` meets its contract. The loop's invariant: writing the
+-- `varint16::put_many_words` meets its contract. The loop's invariant: writing the
 -- words that are left makes the buffer what it is to be. Assumes nothing.
 use mathlib.Core.Path.{_≡_, refl}
 use Prim.Native.Nat.{_+_}
@@ -7,24 +7,24 @@ use lib.ListN.{length}
 use Rattle.base.specs.Paste.{pasted}
 use Rattle.base.proofs.PastingLaws.{Pasting, pasting-start}
 use Rattle.dna.specs.Varint16.{varint16Bytes}
-use Rattle.lengths.proofs.WrittenWords.{words-room, words-turn, words-end}
+use Rattle.varint16.proofs.WrittenWords.{words-room, words-turn, words-end}
 use borrow.Author.Needs.{needs}
-use Rattle.lengths.proofs.write.put_many_words.Statement.{statement}
-use Rattle.lengths.proofs.write.put_many_words.Tie as tie
+use Rattle.varint16.proofs.put_many_words.Statement.{statement}
+use Rattle.varint16.proofs.put_many_words.Tie as tie
 
 abbrev Inv-loop : tie.InvT-loop
-Inv-loop size out₀ at left₀ place₀ out left place =
-    Pasting (pasted out₀ at (varint16Bytes size)) (at + length (varint16Bytes size)) out place
+Inv-loop number out₀ at left₀ place₀ out left place =
+    Pasting (pasted out₀ at (varint16Bytes number)) (at + length (varint16Bytes number)) out place
     (varint16Bytes left)
     × (length out ≡ length out₀)
 
 abbrev μ-loop : tie.MeasureT-loop
-μ-loop size out₀ at left₀ place₀ out left place = left
+μ-loop number out₀ at left₀ place₀ out left place = left
 
 loop-holds : tie.Need-loop-holds Inv-loop μ-loop
 loop-holds c = (
   pasting-start (c .before .args .out .now) (c .before .args .at)
-      (varint16Bytes (c .before .args .size)) (c .before .pre),
+      (varint16Bytes (c .before .args .number)) (c .before .pre),
   refl,
 )
 
