@@ -153,7 +153,7 @@ fn last_byte4(codes: &[u8], from: usize) -> u8
 }
 
 // Four codes of two bits in a byte.
-fn byte2(first: u8, second: u8, third: u8, fourth: u8) -> u8
+pub fn byte2(first: u8, second: u8, third: u8, fourth: u8) -> u8
     requires { ⌜ (first < 4) × (second < 4) × (third < 4) × (fourth < 4) ⌝ }
     ensures { λ r. ⌜ r ≡ first * 64 + second * 16 + third * 4 + fourth ⌝ }
 {

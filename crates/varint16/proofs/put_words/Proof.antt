@@ -15,13 +15,13 @@ room : (c : tie.Else2)
 room c =
     let a = c .before .before .before .before .args in
     few-room (a .out .now) (a .at) (a .number) (omega arith) (c .before .size32 .result)
-    (c .before .size32 .ensures .0) (c .before .before .if1 .left) (c .if2 .left)
+    (c .before .size32 .ensures .0) (omega arith) (c .if2 .left)
 
 some : (c : tie.Else2) → 1 ≤ c .before .size32 .result
 some c =
     let a = c .before .before .before .before .args in
     few-some (a .out .now) (a .at) (a .number) (omega arith) (c .before .size32 .result)
-    (c .before .size32 .ensures .0) (c .before .before .if1 .left) (c .if2 .left)
+    (c .before .size32 .ensures .0) (omega arith) (c .if2 .left)
 
 cast-put-u16 : tie.Need-cast-put-u16
 cast-put-u16 c = search needs
@@ -42,7 +42,7 @@ returns c =
     let put = c .before .before in
     let small = put .before .before in
     let a = small .before .before .args in
-    one-word (a .out .now) (a .at) (a .number) (omega arith) _ (small .if1 .taken)
+    one-word (a .out .now) (a .at) (a .number) (omega arith) _ (omega arith)
     (put .put-u16 .ensures)
 
 size32-requires : tie.Need-size32-requires
@@ -112,7 +112,7 @@ returns-3 c =
     let large = few .before .before in
     let a = large .before .before .args in
     few-words (a .out .now) (a .at) (a .number) (omega arith) (few .before .size32 .result)
-    (few .before .size32 .ensures .0) (large .if1 .left) (few .if2 .left) _ _ _
+    (few .before .size32 .ensures .0) (omega arith) (few .if2 .left) _ _ _
     (first .put-u162 .ensures) (second .put-u163 .ensures) (third .put-u164 .ensures)
 
 pub put-words-spec : {M : Type 1} → statement M
