@@ -1,0 +1,3 @@
+pub mod NPlaceLaws
+pub mod NListLaws
+pub mod WordLaws
