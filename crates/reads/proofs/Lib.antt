@@ -1,0 +1,2 @@
+pub mod AndThenLaws
+pub mod FlatLaws

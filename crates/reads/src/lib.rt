@@ -1,0 +1,1 @@
+// The reads of a block, one after the other.
