@@ -51,11 +51,11 @@ left-cons source standing readLength lengths at =
 
 -- ---- Inside a group
 
-first-read : (read : ℕ) → read % 8 ≡ 0 → beginsGroup read ≡ true
+pub first-read : (read : ℕ) → read % 8 ≡ 0 → beginsGroup read ≡ true
 unfolding beginsGroup
 first-read read e = eq-eqb (read % 8) 0 e
 
-not-first : (read : ℕ) → 0 < read % 8 → beginsGroup read ≡ false
+pub not-first : (read : ℕ) → 0 < read % 8 → beginsGroup read ≡ false
 unfolding beginsGroup
 not-first read some = ne-eqb (read % 8) 0 (λ e. omega arith)
 

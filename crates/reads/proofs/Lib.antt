@@ -1,2 +1,5 @@
 pub mod AndThenLaws
 pub mod FlatLaws
+pub mod GroupByteLaws
+pub mod GroupStepLaws
+pub mod StepLaws

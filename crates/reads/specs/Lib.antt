@@ -1,1 +1,2 @@
 pub mod ReadWalk
+pub mod Cursor
