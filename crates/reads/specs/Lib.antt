@@ -1,2 +1,3 @@
 pub mod ReadWalk
 pub mod Cursor
+pub mod Walked

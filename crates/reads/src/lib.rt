@@ -5,6 +5,7 @@
 use crate::groups::GroupStep;
 use crate::groups::bits_of;
 use crate::groups::take_group;
+use crate::visit::visit_read;
 use dna::Counts;
 use dna::Record;
 use dna::refusals::LENGTHS_INVALID;
@@ -33,6 +34,7 @@ ghost use Rattle.reads.specs.Cursor.{
 };
 
 pub mod groups;
+pub mod visit;
 
 // Where a walk over the reads stands. The order of the fields leaves no padding.
 pub struct ReadCursor {
