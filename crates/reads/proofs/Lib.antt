@@ -3,3 +3,6 @@ pub mod FlatLaws
 pub mod GroupByteLaws
 pub mod GroupStepLaws
 pub mod StepLaws
+pub mod TakenLaws
+pub mod TurnLaws
+pub mod WalkingLaws

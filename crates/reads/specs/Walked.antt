@@ -2,7 +2,7 @@
 -- found. Where it writes, the letters and ends begin at the start of the buffers.
 use Prim.Native.Nat.{ℕ, _+_, _^_, _≤_, _<_}
 use mathlib.Core.Path.{_≡_}
-use mathlib.Core.Bool.{Bool, true, false, cond}
+use mathlib.Core.Bool.{Bool, true, false, cond, _||_}
 use mathlib.Core.List.{List, [], _∷_, map, flatten}
 use lib.ListN.{length}
 use Rattle.base.specs.Lists.{total, placesFrom}
@@ -84,6 +84,13 @@ countsOf counts =
       differences = counts .differences;
     }
 
+-- Two counts whose sums fit 64 bits.
+pub record CountsAdd (a b : Counts) : Type 0 where
+  pub reads : a .reads + b .reads < 2 ^ 64
+  pub letters : a .letters + b .letters < 2 ^ 64
+  pub entries : a .entries + b .entries < 2 ^ 64
+  pub differences : a .differences + b .differences < 2 ^ 64
+
 -- ---- The answer
 
 -- The read that a walk of no steps answers.
@@ -122,6 +129,13 @@ lettersAfter write reference walk letters =
 
 unfoldable pub endsAfter : (write : Bool) (walk : Walk Arrived) (ends : List ℕ) → List ℕ
 endsAfter write walk ends = cond write (pasted ends 0 (endsOf 0 (foundReads walk))) ends
+
+-- What a call of the walk gives, and what it leaves in the buffers.
+pub record WalkDone (walk : Walk Arrived) (write count : Bool) (reference : List ℕ)
+    (answer : Walked) (lettersBefore lettersNow endsBefore endsNow : List ℕ) : Type 0 where
+  pub answered : answer ≡ walkAnswer (write || count) reference walk
+  pub letters-are : lettersNow ≡ lettersAfter write reference walk lettersBefore
+  pub ends-are : endsNow ≡ endsAfter write walk endsBefore
 
 -- ---- What writing needs
 

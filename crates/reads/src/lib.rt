@@ -10,6 +10,7 @@ use dna::Counts;
 use dna::Record;
 use dna::refusals::LENGTHS_INVALID;
 use integers::size32;
+use integers::size64;
 use integers::wide64;
 use lengths::LengthStep;
 use lengths::SizeCursor;
@@ -21,7 +22,11 @@ use records::decode_record;
 ghost use mathlib.Core.Path.{_≡_};
 ghost use mathlib.Core.Bool.{true, _||_};
 ghost use Prim.Native.Nat.{_+_, _≤_, _<_};
+ghost use lib.ListN.{length};
 ghost use Rattle.base.specs.Numbers.{nonNegative};
+ghost use Rattle.dna.specs.Reference.{ReferenceFits};
+ghost use Rattle.dna.specs.Counts.{zeroCounts, plus};
+ghost use Rattle.format.specs.Answered.{countedOf};
 ghost use Rattle.reads.specs.Cursor.{
   sourceOf,
   SourceFits,
@@ -31,6 +36,14 @@ ghost use Rattle.reads.specs.Cursor.{
   readStep,
   stepAnswer,
   readSteps,
+};
+ghost use Rattle.reads.specs.Walked.{
+  countsOf,
+  noRead,
+  TablesMade,
+  Writable,
+  WalkDone,
+  CountsAdd,
 };
 
 pub mod groups;
@@ -84,6 +97,74 @@ pub fn first_read(fixed: bool, each: i32) -> ReadCursor
         read: 0,
         group: 0,
     }
+}
+
+// Walks `steps` reads from a cursor on: counts them, their differences only where `count` is set or
+// they are written; where `write` is set, writes their letters and ends from the start of the lent
+// buffers on. The tables matter only then.
+pub fn walk(
+    reference: &[u8],
+    dna: &[u8],
+    sizes: &[u8],
+    ns: &[u8],
+    reads: usize,
+    bases: u64,
+    start: ReadCursor,
+    steps: usize,
+    count: bool,
+    write: bool,
+    forward_table: &[u32; 256],
+    reverse_table: &[u32; 256],
+    pair_table: &[u16; 256],
+    letters: &mut [u8],
+    ends: &mut [u32],
+) -> Walked
+    requires { ⌜ (SourceFits (sourceOf (now dna) (now sizes) (now ns) reads bases))
+        × (ReferenceFits bases (now reference))
+        × (CursorFits (now dna) start)
+        × (start .read + steps ≤ reads) ⌝ }
+    requires { ⌜ (write ≡ true
+        → TablesMade (now «forward_table») (now «reverse_table») (now «pair_table»)
+        × Writable
+        (readSteps steps (sourceOf (now dna) (now sizes) (now ns) reads bases) start) steps
+        (length (now letters)) (length (now ends))) ⌝ }
+    ensures { λ r. ⌜ WalkDone (readSteps steps
+        (sourceOf (now (dna .entry)) (now (sizes .entry)) (now (ns .entry)) reads bases) start)
+        write count (now (reference .entry)) r (now (letters .entry)) (now (letters .exit))
+        (now (ends .entry)) (now (ends .exit)) ⌝ }
+{
+    let mut cursor = start;
+    let mut last = no_read();
+    let mut counts = no_counts();
+    let mut i: usize = 0;
+    while i < steps {
+        let step = next_read(dna, sizes, ns, reads, bases, cursor);
+        match step {
+            ReadStep::Refused(number, read) => return Walked::Refused(number, read),
+            ReadStep::Found(read, next) => {
+                let from = size64(counts.letters);
+                let visited = visit_read(
+                    reference,
+                    dna,
+                    read,
+                    count,
+                    write,
+                    forward_table,
+                    reverse_table,
+                    pair_table,
+                    letters,
+                    from,
+                    ends,
+                    i,
+                );
+                counts = counts_added(counts, visited);
+                last = read;
+                cursor = next;
+            }
+        }
+        i += 1;
+    }
+    Walked::At(cursor, last, counts)
 }
 
 // The next read, and the cursor after it. Its only caller is `walk`, so that it is inlined there.
@@ -143,5 +224,47 @@ fn position_after(record: Record, previous: u64) -> u64
         Record::Local(placement) => placement.position,
         Record::Raw => previous,
         Record::Raw4 => previous,
+    }
+}
+
+// What a walk of no steps answers as its last read.
+fn no_read() -> Read
+    ensures { λ r. ⌜ r ≡ noRead ⌝ }
+{
+    Read {
+        length: 0,
+        record: Record::Raw,
+        layout: Layout {
+            entries: 0,
+            entry_count: 0,
+            packed: 0,
+            n_list: 0,
+            n_count: 0,
+            end: 0,
+        },
+    }
+}
+
+fn no_counts() -> Counts
+    ensures { λ r. ⌜ r ≡ countsOf zeroCounts ⌝ }
+{
+    Counts {
+        reads: 0,
+        letters: 0,
+        entries: 0,
+        differences: 0,
+    }
+}
+
+// Counts added field by field.
+fn counts_added(a: Counts, b: Counts) -> Counts
+    requires { ⌜ CountsAdd a b ⌝ }
+    ensures { λ r. ⌜ r ≡ countsOf (plus (countedOf a) (countedOf b)) ⌝ }
+{
+    Counts {
+        reads: a.reads + b.reads,
+        letters: a.letters + b.letters,
+        entries: a.entries + b.entries,
+        differences: a.differences + b.differences,
     }
 }

@@ -1,0 +1,25 @@
+-- `reads::counts_added` meets its contract. Assumes nothing.
+use mathlib.Core.Path.{refl}
+use Rattle.dna.specs.Counts.{plus}
+use borrow.Author.Needs.{needs}
+use Rattle.reads.proofs.counts_added.Statement.{statement}
+use Rattle.reads.proofs.counts_added.Tie as tie
+
+add-t3 : tie.Need-add-t3
+add-t3 c = search needs
+
+add-t4 : tie.Need-add-t4
+add-t4 c = search needs
+
+add-t5 : tie.Need-add-t5
+add-t5 c = search needs
+
+add-t6 : tie.Need-add-t6
+add-t6 c = search needs
+
+returns : tie.Need-returns
+unfolding plus
+returns c = refl
+
+pub counts-added-spec : {M : Type 1} → statement M
+counts-added-spec = tie.close (tie.spec add-t3 add-t4 add-t5 add-t6 returns)
