@@ -42,3 +42,10 @@ andThen-checked {R} {A} {B} terms (one ∷ faults) answer f =
     (checked (λ number. refused (terms number)) faults (andThen answer f))
     = λ t. elim t [ true ↦ refl | false ↦ andThen-checked terms faults answer f ] in
     go (one .fits)
+
+-- The continuations agree on what was found.
+pub andThen-known : {R A B : Type 0} (answer : Answer R A) (f g : A → ℕ → Answer R B)
+    → ((a : A) (i : ℕ) → answer ≡ found a i → f a i ≡ g a i) → andThen answer f ≡ andThen answer g
+unfolding andThen
+andThen-known (found a i) f g same = same a i refl
+andThen-known (refused r) f g same = refl

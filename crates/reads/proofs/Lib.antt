@@ -6,3 +6,5 @@ pub mod StepLaws
 pub mod TakenLaws
 pub mod TurnLaws
 pub mod WalkingLaws
+pub mod StepsLaws
+pub mod ReadLaws

@@ -111,7 +111,7 @@ pub record TakenStands (source : Source) (cursor : ReadCursor) (taken : Taken) (
   pub previous-is : taken .read .context .previousPosition ≡ cursor .position
   pub read-is : taken .cursor .read ≡ cursor .read + 1
 
-read-stands : (source : Source) (standing : Standing) (size at : ℕ) (read : FoundRead) (end : ℕ)
+pub read-stands : (source : Source) (standing : Standing) (size at : ℕ) (read : FoundRead) (end : ℕ)
     → readAt source standing size at ≡ found read end
     → (recordAt (read .context) (source .dna) (read .at) ≡ found (read .stored) (read .end))
     × ((read .context ≡ contextAt source standing size at) × (end ≡ read .end))

@@ -89,9 +89,9 @@ walkedOn differences reference counts last (found arrived next) =
 walkedOn differences reference counts last (refused why) =
     walks.Refused (why .number) (why .read)
 
-plus-zero : (counts : Counted) → plus zeroCounts counts ≡ counts
+none-plus : (counts : Counted) → plus zeroCounts counts ≡ counts
 unfolding plus
-plus-zero counts =
+none-plus counts =
     λ t.
     record {
       reads = zero-add (counts .reads) t;
@@ -100,9 +100,9 @@ plus-zero counts =
       differences = zero-add (counts .differences) t;
     }
 
-zero-plus : (counts : Counted) → plus counts zeroCounts ≡ counts
+pub plus-none : (counts : Counted) → plus counts zeroCounts ≡ counts
 unfolding plus
-zero-plus counts =
+plus-none counts =
     λ t.
     record {
       reads = add-zero (counts .reads) t;
@@ -132,7 +132,7 @@ walked-first differences reference counts last (found arrived next) none first =
     sym
     (ap₂
     (λ (c : Counted) (r : Read). walks.At (arrived .cursor) (lastOf r (arrived .reads)) (countsOf c))
-    (ap (λ (c : Counts). plus (countedOf c) later) none ∙ plus-zero later) first)
+    (ap (λ (c : Counts). plus (countedOf c) later) none ∙ none-plus later) first)
 walked-first differences reference counts last (refused why) none first = refl
 
 -- One read more.
@@ -189,7 +189,7 @@ module _ (differences : Bool) (reference : List ℕ) (counts : Counts) (last : R
   unfolding walkedOn lastOf readsCounts sumCounts
   walked-end none =
       ap (walkedOn differences reference counts last) (steps-none source cursor n none)
-      ∙ ap (λ (c : Counted). walks.At cursor last (countsOf c)) (zero-plus (countedOf counts))
+      ∙ ap (λ (c : Counted). walks.At cursor last (countsOf c)) (plus-none (countedOf counts))
 
 -- ---- The buffers
 
