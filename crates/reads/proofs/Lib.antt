@@ -8,3 +8,4 @@ pub mod TurnLaws
 pub mod WalkingLaws
 pub mod StepsLaws
 pub mod ReadLaws
+pub mod AllReadLaws

@@ -1,0 +1,81 @@
+-- Letters, ends and counts of all reads of a block are those of its division. Assumes nothing.
+use mathlib.Core.Path.{_≡_, refl, sym, ap, ap₂, _∙_}
+use Prim.Native.Nat.{ℕ, _+_}
+use native.Mathlib.Omega.{arith}
+use mathlib.Core.Bool.{Bool, true, false, cond}
+use mathlib.Core.List.{List, [], _∷_, map, flatten, map-map}
+use lib.ListN.{length, length-map}
+use Rattle.base.specs.Lists.{total, placesFrom}
+use Rattle.dna.specs.Letters.{recordLetters}
+use Rattle.dna.specs.Counts.{Counted, plus, sumCounts, recordCounts}
+use Rattle.dna.specs.Division.{Division, Read, readsOf, divisionLetters, divisionCounts, readEnds}
+use Rattle.reads.specs.ReadWalk.{Source, FoundRead, readOf}
+use Rattle.reads.specs.Walked.{readLetters, readSize, lettersOf, endsOf, sizeOf, countsWith}
+use Rattle.reads.specs.Walked.{readCounts, readsCounts}
+use Rattle.reads.proofs.ReadLaws.{AllReads}
+
+-- Differences are left out of a sum as of its parts.
+cond-add : (t : Bool) (a b : ℕ) → cond t (a + b) 0 ≡ cond t a 0 + cond t b 0
+cond-add true a b = refl
+cond-add false a b = refl
+
+with-plus : (differences : Bool) (a b : Counted)
+    → countsWith differences (plus a b) ≡ plus (countsWith differences a) (countsWith differences b)
+unfolding countsWith plus
+with-plus differences a b =
+    ap
+    (λ (n : ℕ).
+    record {
+      reads = a .reads + b .reads;
+      letters = a .letters + b .letters;
+      entries = a .entries + b .entries;
+      differences = n;
+    })
+    (cond-add differences (a .differences) (b .differences))
+
+with-sum : (differences : Bool) {A : Type 0} (f : A → Counted) (list : List A)
+    → sumCounts (map (λ a. countsWith differences (f a)) list)
+    ≡ countsWith differences (sumCounts (map f list))
+unfolding sumCounts countsWith
+with-sum true f [] = refl
+with-sum false f [] = refl
+with-sum differences f (x ∷ xs) =
+    ap (plus (countsWith differences (f x))) (with-sum differences f xs)
+    ∙ sym (with-plus differences (f x) (sumCounts (map f xs)))
+
+module _ {source : Source} {fixed : Bool} {each : ℕ} {lengths′ : List ℕ} {division : Division}
+    {end : ℕ} (all : AllReads source fixed each lengths′ division end) where
+  pub all-letters : (reference : List ℕ)
+      → lettersOf reference (all .arrived .reads)
+      ≡ flatten (divisionLetters reference (source .bases) lengths′ division)
+  unfolding lettersOf readLetters divisionLetters
+  all-letters reference =
+      let letters : Read → List ℕ =
+      λ read. recordLetters reference (read .context) (read .piece .stored) in
+      ap flatten
+      (sym (map-map letters readOf (all .arrived .reads)) ∙ ap (map letters) (all .reads-are))
+
+  pub all-ends : endsOf 0 (all .arrived .reads) ≡ readEnds lengths′
+  unfolding endsOf readEnds
+  all-ends = ap (placesFrom 0) (all .lengths-are)
+
+  pub all-counts : (differences : Bool) (reference : List ℕ)
+      → readsCounts differences reference (all .arrived .reads)
+      ≡ countsWith differences (divisionCounts reference (source .bases) lengths′ division)
+  unfolding readsCounts readCounts divisionCounts
+  all-counts differences reference =
+      let counts : Read → Counted =
+      λ read. recordCounts reference (read .context) (read .piece .stored) in
+      with-sum differences (λ read. recordCounts reference (read .context) (read .stored))
+      (all .arrived .reads)
+      ∙ ap (λ (list : List Counted). countsWith differences (sumCounts list))
+      (sym (map-map counts readOf (all .arrived .reads)) ∙ ap (map counts) (all .reads-are))
+
+  -- How many letters and reads they are.
+  pub all-sizes : (sizeOf (all .arrived .reads) ≡ total lengths′)
+      × (length (all .arrived .reads) ≡ length lengths′)
+  unfolding sizeOf
+  all-sizes = (
+    ap total (all .lengths-are),
+    sym (length-map (all .arrived .reads) readSize) ∙ ap length (all .lengths-are),
+  )
