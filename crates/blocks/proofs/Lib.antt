@@ -1,0 +1,3 @@
+pub mod WalkedLaws
+pub mod JudgeLaws
+pub mod SourceLaws

@@ -1,0 +1,170 @@
+// Reading a block (01, Numbers of refusal: smallest step first): judged with 1 to 21, and decoded
+// into lent buffers, which 22 is decided for before the first byte is written. The contracts of the
+// public calls cite specs/BlockAnswer.antt of format; neither has a `requires`.
+use dna::refusals::CAPACITY_TOO_SMALL;
+use dna::refusals::DNA_TRAILING;
+use dna::refusals::N_SECTION_WRONG;
+use dna::refusals::REFERENCE_SIZE_WRONG;
+use format::BlockOutcome;
+use header::faults::header_fault;
+use header::fields::l_read;
+use header::fields::read_count;
+use header::fields::same_length;
+use header::sections::DNA_SECTION;
+use header::sections::N_SECTION;
+use header::sections::SIZE_SECTION;
+use header::sections::block_length;
+use header::sections::section;
+use header::sections::section_length;
+use integers::size32;
+use lengths::blocks::lengths_fault;
+use reads::Walked;
+use reads::first_read;
+use reads::walk;
+use records::letters::pair_table;
+use reference::reference_size_wrong;
+use reference::word_table;
+ghost use mathlib.Core.Path.{_≡_};
+ghost use mathlib.Core.Bool.{true, false};
+ghost use Prim.Native.Nat.{_≤_};
+ghost use lib.ListN.{length};
+ghost use Rattle.dna.specs.Reference.{ReferenceFits};
+ghost use Rattle.format.specs.Header.{headerOf, readCount};
+ghost use Rattle.format.specs.Lengths.{nSectionWrong};
+ghost use Rattle.format.specs.Answered.{outcomeOfBlock};
+ghost use Rattle.format.specs.BlockAnswer.{
+  headerRefused,
+  lengthsAnswer,
+  blockAnswer,
+  validatedBlock,
+  decoded,
+  decodedLetters,
+  decodedEnds,
+};
+ghost use Rattle.lengths.specs.Given.{lengthsFound, lengthsNumber};
+ghost use Rattle.reads.specs.Walked.{walkAnswer, TablesMade, Writable, WalkDone};
+ghost use Rattle.blocks.specs.Judged.{BlockReady, blockWalk, judged};
+
+// Judges the block at the input's start.
+pub fn validate_block(bases: u64, reference: &[u8], input: &[u8]) -> BlockOutcome
+    ensures { λ r. ⌜ outcomeOfBlock r
+        ≡ validatedBlock bases (now (reference .entry)) (now (input .entry)) ⌝ }
+{
+    judge(bases, reference, input, true)
+}
+
+// Judges a block with 1 to 21; its differences are counted where `count` is set.
+fn judge(bases: u64, reference: &[u8], input: &[u8], count: bool) -> BlockOutcome
+    ensures { λ r. ⌜ r ≡ judged count bases (now (reference .entry)) (now (input .entry)) ⌝ }
+{
+    if reference_size_wrong(bases, reference) {
+        return BlockOutcome::Refused(REFERENCE_SIZE_WRONG, 0);
+    }
+    let header = header_fault(input);
+    if header != 0 {
+        return BlockOutcome::Refused(header, 0);
+    }
+    let lengths = lengths_fault(input);
+    if lengths != 0 {
+        return BlockOutcome::Refused(lengths, 0);
+    }
+    judge_reads(bases, reference, input, count)
+}
+
+// Judges the N section and the reads of a block that earns none of 1 to 10.
+fn judge_reads(bases: u64, reference: &[u8], input: &[u8], count: bool) -> BlockOutcome
+    requires { ⌜ (ReferenceFits bases (now reference)) × (headerRefused (now input) ≡ false)
+        × (lengthsNumber (headerOf (now input) .«l_DNA_raw»)
+        (lengthsFound (lengthsAnswer (now input))) ≡ 0) ⌝ }
+    ensures { λ r. ⌜ r ≡ judged count bases (now (reference .entry)) (now (input .entry)) ⌝ }
+{
+    if n_section_wrong(input) {
+        return BlockOutcome::Refused(N_SECTION_WRONG, 0);
+    }
+    match walk_unwritten(bases, reference, input, count) {
+        Walked::Refused(number, read) => BlockOutcome::Refused(number, read),
+        Walked::At(cursor, _, counts) => {
+            if cursor.at < section_length(input, 0) {
+                return BlockOutcome::Refused(DNA_TRAILING, 0);
+            }
+            BlockOutcome::Accepted(block_length(input) as u64, counts)
+        }
+    }
+}
+
+// 11 by length: the N section has not a bit for each read.
+fn n_section_wrong(input: &[u8]) -> bool
+    requires { ⌜ headerRefused (now input) ≡ false ⌝ }
+    ensures { λ r. ⌜ r ≡ nSectionWrong (now (input .entry)) ⌝ }
+{
+    section_length(input, 5) != (size32(read_count(input)) + 7) / 8
+}
+
+// Walks all reads of a block and writes nothing.
+fn walk_unwritten(bases: u64, reference: &[u8], input: &[u8], count: bool) -> Walked
+    requires { ⌜ BlockReady bases (now reference) (now input) ⌝ }
+    ensures { λ r. ⌜ r ≡ walkAnswer count (now (reference .entry))
+        (blockWalk bases (now (input .entry))) ⌝ }
+{
+    let words = [0u32; 256];
+    let pairs = [0u16; 256];
+    let mut letters = [0u8; 1];
+    let mut ends = [0u32; 1];
+    walk_block(
+        bases,
+        reference,
+        input,
+        count,
+        false,
+        &words,
+        &words,
+        &pairs,
+        &mut letters,
+        &mut ends,
+    )
+}
+
+// Walks all reads of a block.
+fn walk_block(
+    bases: u64,
+    reference: &[u8],
+    input: &[u8],
+    count: bool,
+    write: bool,
+    forward_table: &[u32; 256],
+    reverse_table: &[u32; 256],
+    pair_table: &[u16; 256],
+    letters: &mut [u8],
+    ends: &mut [u32],
+) -> Walked
+    requires { ⌜ BlockReady bases (now reference) (now input) ⌝ }
+    requires { ⌜ (write ≡ true
+        → TablesMade (now «forward_table») (now «reverse_table») (now «pair_table»)
+        × Writable (blockWalk bases (now input)) (readCount (headerOf (now input)))
+        (length (now letters)) (length (now ends))) ⌝ }
+    ensures { λ r. ⌜ WalkDone (blockWalk bases (now (input .entry))) write count
+        (now (reference .entry)) r (now (letters .entry)) (now (letters .exit))
+        (now (ends .entry)) (now (ends .exit)) ⌝ }
+{
+    let dna = section(input, DNA_SECTION);
+    let sizes = section(input, SIZE_SECTION);
+    let ns = section(input, N_SECTION);
+    let reads = size32(read_count(input));
+    walk(
+        reference,
+        dna,
+        sizes,
+        ns,
+        reads,
+        bases,
+        first_read(same_length(input), l_read(input)),
+        reads,
+        count,
+        write,
+        forward_table,
+        reverse_table,
+        pair_table,
+        letters,
+        ends,
+    )
+}
