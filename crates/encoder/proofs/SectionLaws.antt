@@ -119,14 +119,14 @@ length-dnaBytes records =
     let all : List Written = x ∷ xs in
     let some : 0 < length all = omega arith in
     let head : length (groupBytes (writtenGroup (take 8 all))) ≡ 4 + length (flatMap bytesOf (take 8 all)) =
-        ap length (group-bytes (take 8 all)) ∙ omega arith in
+    ap length (group-bytes (take 8 all)) ∙ omega arith in
     let split : length (dnaBytes all)
-        ≡ length (groupBytes (writtenGroup (take 8 all))) + length (dnaBytes (drop 8 all)) =
-        ap length (dna-groups all some) ∙ length-append (groupBytes (writtenGroup (take 8 all))) _ in
+    ≡ length (groupBytes (writtenGroup (take 8 all))) + length (dnaBytes (drop 8 all)) =
+    ap length (dna-groups all some) ∙ length-append (groupBytes (writtenGroup (take 8 all))) _ in
     let whole : length (flatMap bytesOf all)
-        ≡ length (flatMap bytesOf (take 8 all)) + length (flatMap bytesOf (drop 8 all)) =
-        ap (λ (l : List Written). length (flatMap bytesOf l)) (sym (take-append-drop 8 all))
-        ∙ ap length (flatMap-append bytesOf (take 8 all) (drop 8 all))
-        ∙ length-append (flatMap bytesOf (take 8 all)) _ in
+    ≡ length (flatMap bytesOf (take 8 all)) + length (flatMap bytesOf (drop 8 all)) =
+    ap (λ (l : List Written). length (flatMap bytesOf l)) (sym (take-append-drop 8 all))
+    ∙ ap length (flatMap-append bytesOf (take 8 all) (drop 8 all))
+    ∙ length-append (flatMap bytesOf (take 8 all)) _ in
     omega (arith, length-drop 8 all))
     records

@@ -69,7 +69,7 @@ pub found-inside : (bases : ℕ) (reference input : List ℕ) (divided : BlockDi
     → Inside input bytes
 found-inside bases reference input divided bytes all e =
     let accepted : Accepted bases input divided bytes =
-        block-found bases reference input divided bytes all e in
+    block-found bases reference input divided bytes all e in
     let right : HeaderRight input = faults-right input (accepted .header) in
     record {
       some = omega (arith, right .header, accepted .size);
@@ -99,6 +99,12 @@ pub outcome-refused : (bases : ℕ) (reference input : List ℕ) (number read : 
 unfolding validatedBlock
 outcome-refused bases reference input number read all e =
     refused-by bases reference input number read all (blockAnswer bases reference input) refl e
+
+-- Its number is not 0.
+pub refused-number : (bases : ℕ) (reference input : List ℕ) (number read : ℕ)
+    → blockAnswer bases reference input ≡ refused (ofRead read number) → 1 ≤ number
+refused-number bases reference input number read e =
+    refuses-with (OwnRefusal 1 21 (readCount (headerOf input))) e (block-own bases reference input) .least
 
 -- ---- The file
 
@@ -137,7 +143,7 @@ wrapped-plus : (a b c : Counted)
 unfolding wrappedPlus modulo64 plus
 wrapped-plus a b c =
     let one : (x y z : ℕ) → (x + (y + z)) % 2 ^ 64 ≡ ((x + y) % 2 ^ 64 + z) % 2 ^ 64 =
-        λ x y z. omega arith in
+    λ x y z. omega arith in
     λ i. record {
       reads = one (a .reads) (b .reads) (c .reads) i;
       letters = one (a .letters) (b .letters) (c .letters) i;

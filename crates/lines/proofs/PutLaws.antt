@@ -19,5 +19,5 @@ put-next buffer at part next middle out place end before room after = (
   pasted-then buffer middle out at place part next (omega (arith, before .1)) (before .1)
       (before .0) (after .0),
   (let size : length (part ++ next) ≡ length part + length next = length-append part next in
-  omega (arith, before .1, after .1)),
+      omega (arith, before .1, after .1)),
 )

@@ -1,34 +1,26 @@
-use Rattle.io.specs.Digits.{digits}
-use Rattle.lines.proofs.TextLaws.{few-digits, length-digits}
-use mathlib.Core.Path.{_≡_, sym, ap, _∙_}
+-- `lines::put_decimal` meets its contract: the digits of io are those of the definition. Assumes nothing.
+use mathlib.Core.Path.{_≡_, ap, _∙_}
 use Prim.Native.Nat.{ℕ, _+_, _≤_}
 use native.Mathlib.Omega.{arith}
 use mathlib.Core.List.{List}
 use lib.ListN.{length, take}
-use Rattle.base.specs.Paste.{pasted}
-use Rattle.lines.specs.Text.{decimal}
-use Rattle.lines.proofs.TextLaws.{decimal-shown}
 use borrow.Author.Needs.{needs}
+use Rattle.base.specs.Paste.{pasted}
+use Rattle.io.specs.Digits.{digits}
+use Rattle.lines.proofs.TextLaws.{few-digits, length-digits, decimal-shown}
+use Rattle.lines.specs.Text.{decimal}
 use Rattle.lines.proofs.put_decimal.Statement.{statement}
 use Rattle.lines.proofs.put_decimal.Tie as tie
-use Rattle.lines.proofs.put_decimal.Reads as reads
-use Rattle.lines.proofs.put_decimal.Lts as lts
-use Rattle.io.proofs.decimal.Reads as decimal-reads
-use Rattle.lines.proofs.put_text.Reads as put-text-reads
 
--- src/lib.rt:33:9
 decimal-requires : tie.Need-decimal-requires
 decimal-requires c κs = search needs
 
--- src/lib.rt:34:14
 array-share-prefix-digits : tie.Need-array-share-prefix-digits
 array-share-prefix-digits c = search needs
 
--- src/lib.rt:34:14
 slice-aggregate-put-text : tie.Need-slice-aggregate-put-text
 slice-aggregate-put-text c = search needs
 
--- src/lib.rt:34:5
 put-text-requires : tie.Need-put-text-requires
 put-text-requires c κs =
     let d = c .before .before .decimal in
@@ -38,11 +30,9 @@ put-text-requires c κs =
     ap length (d .ensures .1 .1) ∙ length-digits 10 (d .result) (a .number) in
     omega arith
 
--- src/lib.rt:27:1
 same-length : tie.Need-same-length
 same-length c = search needs
 
--- src/lib.rt:27:1
 returns : tie.Need-returns
 returns c =
     let d = c .before .before .before .before .before .decimal in

@@ -1,36 +1,28 @@
+-- `lines::put_end_line` meets its contract: each part starts where the one before it stopped.
+-- Assumes nothing.
 use native.Mathlib.Omega.{arith}
-use Rattle.lines.specs.Text.{text, decimal}
+use borrow.Author.Needs.{needs}
+use Rattle.lines.specs.Text.{text}
 use Rattle.lines.specs.Lines.{endLine, labelled}
 use Rattle.lines.proofs.PutLaws.{put-next}
-use borrow.Author.Needs.{needs}
 use Rattle.lines.proofs.put_end_line.Statement.{statement}
 use Rattle.lines.proofs.put_end_line.Tie as tie
-use Rattle.lines.proofs.put_end_line.Reads as reads
-use Rattle.lines.proofs.put_end_line.Lts as lts
-use Rattle.lines.proofs.put_labelled.Reads as put-labelled-reads
-use Rattle.lines.proofs.put_text.Reads as put-text-reads
 
--- src/lib.rt:88:28
 slice-aggregate-put-labelled : tie.Need-slice-aggregate-put-labelled
 slice-aggregate-put-labelled c = search needs
 
--- src/lib.rt:88:9
 put-labelled-requires : tie.Need-put-labelled-requires
 put-labelled-requires c κs = search needs
 
--- src/lib.rt:89:14
 slice-aggregate-put-text : tie.Need-slice-aggregate-put-text
 slice-aggregate-put-text c = search needs
 
--- src/lib.rt:89:5
 put-text-requires : tie.Need-put-text-requires
 put-text-requires c κs = search needs
 
--- src/lib.rt:83:1
 same-length : tie.Need-same-length
 same-length c = search needs
 
--- src/lib.rt:83:1
 returns : tie.Need-returns
 unfolding endLine labelled text
 returns c =

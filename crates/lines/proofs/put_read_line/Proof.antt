@@ -1,31 +1,25 @@
+-- `lines::put_read_line` meets its contract: each part starts where the one before it stopped.
+-- Assumes nothing.
 use native.Mathlib.Omega.{arith}
-use Rattle.lines.specs.Text.{text, decimal}
+use borrow.Author.Needs.{needs}
+use Rattle.lines.specs.Text.{text}
 use Rattle.lines.specs.Lines.{readLine}
 use Rattle.lines.proofs.PutLaws.{put-next}
-use borrow.Author.Needs.{needs}
 use Rattle.lines.proofs.put_read_line.Statement.{statement}
 use Rattle.lines.proofs.put_read_line.Tie as tie
-use Rattle.lines.proofs.put_read_line.Reads as reads
-use Rattle.lines.proofs.put_read_line.Lts as lts
-use Rattle.lines.proofs.put_text.Reads as put-text-reads
 
--- src/lib.rt:78:9
 put-text-requires : tie.Need-put-text-requires
 put-text-requires c κs = search needs
 
--- src/lib.rt:79:14
 slice-aggregate-put-text : tie.Need-slice-aggregate-put-text
 slice-aggregate-put-text c = search needs
 
--- src/lib.rt:79:5
 put-text-requires-2 : tie.Need-put-text-requires-2
 put-text-requires-2 c κs = search needs
 
--- src/lib.rt:72:1
 same-length : tie.Need-same-length
 same-length c = search needs
 
--- src/lib.rt:72:1
 returns : tie.Need-returns
 unfolding readLine text
 returns c =

@@ -1,52 +1,40 @@
+-- `lines::put_refused_line` meets its contract: each part starts where the one before it stopped.
+-- Assumes nothing.
 use native.Mathlib.Omega.{arith}
-use Rattle.lines.specs.Text.{text, decimal}
+use borrow.Author.Needs.{needs}
+use Rattle.lines.specs.Text.{text}
 use Rattle.lines.specs.Lines.{refusedLine, labelled}
 use Rattle.lines.proofs.PutLaws.{put-next}
-use borrow.Author.Needs.{needs}
 use Rattle.lines.proofs.put_refused_line.Statement.{statement}
 use Rattle.lines.proofs.put_refused_line.Tie as tie
-use Rattle.lines.proofs.put_refused_line.Reads as reads
-use Rattle.lines.proofs.put_refused_line.Lts as lts
-use Rattle.lines.proofs.put_labelled.Reads as put-labelled-reads
-use Rattle.lines.proofs.put_text.Reads as put-text-reads
 
--- src/lib.rt:99:31
 slice-aggregate-put-labelled : tie.Need-slice-aggregate-put-labelled
 slice-aggregate-put-labelled c = search needs
 
--- src/lib.rt:99:9
 put-labelled-requires : tie.Need-put-labelled-requires
 put-labelled-requires c κs = search needs
 
--- src/lib.rt:100:30
 slice-aggregate-put-labelled-2 : tie.Need-slice-aggregate-put-labelled-2
 slice-aggregate-put-labelled-2 c = search needs
 
--- src/lib.rt:100:9
 put-labelled-requires-2 : tie.Need-put-labelled-requires-2
 put-labelled-requires-2 c κs = search needs
 
--- src/lib.rt:101:28
 slice-aggregate-put-labelled-3 : tie.Need-slice-aggregate-put-labelled-3
 slice-aggregate-put-labelled-3 c = search needs
 
--- src/lib.rt:101:9
 put-labelled-requires-3 : tie.Need-put-labelled-requires-3
 put-labelled-requires-3 c κs = search needs
 
--- src/lib.rt:102:14
 slice-aggregate-put-text : tie.Need-slice-aggregate-put-text
 slice-aggregate-put-text c = search needs
 
--- src/lib.rt:102:5
 put-text-requires : tie.Need-put-text-requires
 put-text-requires c κs = search needs
 
--- src/lib.rt:93:1
 same-length : tie.Need-same-length
 same-length c = search needs
 
--- src/lib.rt:93:1
 returns : tie.Need-returns
 unfolding refusedLine labelled text
 returns c =

@@ -1,3 +1,5 @@
+-- `lines::put_text` meets its contract. The loop's invariant: the buffer is the old one with the bytes
+-- behind written over it. The measure is what is left of the text. Assumes nothing.
 use mathlib.Core.Path.{_≡_, refl, sym, ap, _∙_}
 use Prim.Native.Nat.{ℕ, _-_, _≤_}
 use native.Mathlib.Omega.{arith}
@@ -9,8 +11,6 @@ use Rattle.base.proofs.PasteLaws.{pasted-nil, pasted-turn}
 use Rattle.base.proofs.ListLaws.{build-getD}
 use Rattle.lines.proofs.put_text.Statement.{statement}
 use Rattle.lines.proofs.put_text.Tie as tie
-use Rattle.lines.proofs.put_text.Reads as reads
-use Rattle.lines.proofs.put_text.Lts as lts
 
 abbrev Inv-loop : tie.InvT-loop
 Inv-loop text out₀ at k₀ out k =
@@ -20,34 +20,27 @@ Inv-loop text out₀ at k₀ out k =
 abbrev μ-loop : tie.MeasureT-loop
 μ-loop text out₀ at k₀ out k = length text - k
 
--- src/lib.rt:19:5
 loop-holds : tie.Need-loop-holds Inv-loop μ-loop
 unfolding build
 loop-holds c =
     let a = c .args in
     (search needs, sym (pasted-nil (a .out .now) (a .at)), search needs)
 
--- src/lib.rt:20:23
 shared-slice-read-out : tie.Need-shared-slice-read-out Inv-loop μ-loop
 shared-slice-read-out c = search needs
 
--- src/lib.rt:20:13
 add-out : tie.Need-add-out Inv-loop μ-loop
 add-out c = search needs
 
--- src/lib.rt:20:9
 slice-write-out : tie.Need-slice-write-out Inv-loop μ-loop
 slice-write-out c = search needs
 
--- src/lib.rt:21:9
 add-k : tie.Need-add-k Inv-loop μ-loop
 add-k c = search needs
 
--- src/lib.rt:19:5
 loop-less : tie.Need-loop-less Inv-loop μ-loop
 loop-less c = search needs
 
--- src/lib.rt:19:5
 loop-again : tie.Need-loop-again Inv-loop μ-loop
 loop-again c =
     let a = c .before .before .before .args in
@@ -58,15 +51,12 @@ loop-again c =
       simp length-set (l .inv .2),
     )
 
--- src/lib.rt:23:5
 add-result : tie.Need-add-result Inv-loop μ-loop
 add-result c = search needs
 
--- src/lib.rt:13:1
 same-length : tie.Need-same-length Inv-loop μ-loop
 same-length c = search needs
 
--- src/lib.rt:13:1
 returns : tie.Need-returns Inv-loop μ-loop
 returns c =
     let a = c .before .before .args in

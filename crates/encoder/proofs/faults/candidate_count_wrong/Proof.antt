@@ -1,23 +1,18 @@
-use mathlib.Core.Path.{refl, sym, _∙_}
+-- `encoder::faults::candidate_count_wrong` meets its contract, number by number. Assumes nothing.
+use mathlib.Core.Path.{refl}
 use borrow.Author.Tests.{eq-eqb, ne-eqb}
 use Rattle.encoder.proofs.faults.candidate_count_wrong.Statement.{statement}
 use Rattle.encoder.proofs.faults.candidate_count_wrong.Tie as tie
-use Rattle.encoder.proofs.faults.candidate_count_wrong.Reads as reads
-use Rattle.encoder.proofs.faults.candidate_count_wrong.Lts as lts
 
--- src/faults.rt:72:9
 returns : tie.Need-returns
 returns c = rw (ne-eqb _ _ (c .if1 .taken)) refl
 
--- src/faults.rt:75:9
 returns-2 : tie.Need-returns-2
 returns-2 c = rw (eq-eqb _ _ (c .before .if1 .left), ne-eqb _ _ (c .if2 .taken)) refl
 
--- src/faults.rt:78:9
 returns-3 : tie.Need-returns-3
 returns-3 c = rw (eq-eqb _ _ (c .before .before .if1 .left), eq-eqb _ _ (c .before .if2 .left), ne-eqb _ _ (c .if3 .taken)) refl
 
--- src/faults.rt:61:1
 returns-4 : tie.Need-returns-4
 returns-4 c = rw (eq-eqb _ _ (c .before .before .if1 .left), eq-eqb _ _ (c .before .if2 .left), eq-eqb _ _ (c .if3 .left)) refl
 

@@ -1,21 +1,17 @@
-use mathlib.Core.Path.{_≡_, refl, sym, ap, ap₂, _∙_}
+-- `encoder::faults::letter_invalid` meets its contract. The loop's invariant: the flag says whether a
+-- letter behind is none of the five. The measure is what is left of the letters. Assumes nothing.
+use mathlib.Core.Path.{_≡_, ap, _∙_}
 use Prim.Native.Nat.{ℕ, _-_, _≤_, max}
 use native.Mathlib.Omega.{arith}
-use mathlib.Core.Bool.{Bool, not, cond}
-use mathlib.Core.List.{List}
-use lib.ListN.{length, getD, take}
+use mathlib.Core.Bool.{not, cond}
+use lib.ListN.{length, take}
 use lib.Seq.{take-length}
-use lib.Dec.{eqb}
+use borrow.Author.Needs.{needs}
 use Rattle.base.specs.Lists.{any, member}
 use Rattle.dna.specs.Reference.{alphabet}
 use Rattle.encoder.proofs.FaultLaws.{letters-turn, flag-shown}
-use borrow.Author.Needs.{needs}
 use Rattle.encoder.proofs.faults.letter_invalid.Statement.{statement}
 use Rattle.encoder.proofs.faults.letter_invalid.Tie as tie
-use Rattle.encoder.proofs.faults.letter_invalid.Reads as reads
-use Rattle.encoder.proofs.faults.letter_invalid.Lts as lts
-use Rattle.encoder.proofs.faults.larger.Reads as larger-reads
-use Rattle.encoder.proofs.faults.no_letter.Reads as no-letter-reads
 
 abbrev Inv-loop : tie.InvT-loop
 Inv-loop letters invalid₀ i₀ invalid i =
@@ -25,32 +21,25 @@ Inv-loop letters invalid₀ i₀ invalid i =
 abbrev μ-loop : tie.MeasureT-loop
 μ-loop letters invalid₀ i₀ invalid i = length letters - i
 
--- src/faults.rt:51:5
 loop-holds : tie.Need-loop-holds Inv-loop μ-loop
 unfolding any
 loop-holds c = search needs
 
--- src/faults.rt:52:45
 shared-slice-read-no-letter : tie.Need-shared-slice-read-no-letter Inv-loop μ-loop
 shared-slice-read-no-letter c = search needs
 
--- src/faults.rt:52:35
 no-letter-requires : tie.Need-no-letter-requires Inv-loop μ-loop
 no-letter-requires c κs = search needs
 
--- src/faults.rt:52:9
 larger-requires : tie.Need-larger-requires Inv-loop μ-loop
 larger-requires c κs = search needs
 
--- src/faults.rt:53:9
 add-i : tie.Need-add-i Inv-loop μ-loop
 add-i c = search needs
 
--- src/faults.rt:51:5
 loop-less : tie.Need-loop-less Inv-loop μ-loop
 loop-less c = search needs
 
--- src/faults.rt:51:5
 loop-again : tie.Need-loop-again Inv-loop μ-loop
 loop-again c =
     let l = c .before .before .before .before .loop in
@@ -61,7 +50,6 @@ loop-again c =
           ∙ letters-turn letters (l .i) (l .invalid) (omega arith) (l .inv .1),
     )
 
--- src/faults.rt:46:1
 returns : tie.Need-returns Inv-loop μ-loop
 returns c =
     let l = c .before .loop in

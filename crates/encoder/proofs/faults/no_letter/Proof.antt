@@ -1,51 +1,38 @@
-use mathlib.Core.Path.{_≡_, ap, ap₂, _∙_}
-use Prim.Native.Nat.{ℕ, min}
-use Rattle.encoder.proofs.FaultLaws.{letter-flag}
+-- `encoder::faults::no_letter` meets its contract: a letter of five. Assumes nothing.
+use mathlib.Core.Path.{ap, ap₂, _∙_}
+use Prim.Native.Nat.{min}
 use borrow.Author.Needs.{needs}
+use Rattle.encoder.proofs.FaultLaws.{letter-flag}
 use Rattle.encoder.proofs.faults.no_letter.Statement.{statement}
 use Rattle.encoder.proofs.faults.no_letter.Tie as tie
-use Rattle.encoder.proofs.faults.no_letter.Reads as reads
-use Rattle.encoder.proofs.faults.no_letter.Lts as lts
-use Rattle.encoder.proofs.faults.differs.Reads as differs-reads
-use Rattle.encoder.proofs.faults.smaller.Reads as smaller-reads
 
--- src/faults.rt:62:26
 differs-requires : tie.Need-differs-requires
 differs-requires c κs = search needs
 
--- src/faults.rt:62:47
 differs-requires-2 : tie.Need-differs-requires-2
 differs-requires-2 c κs = search needs
 
--- src/faults.rt:62:9
 smaller-requires : tie.Need-smaller-requires
 smaller-requires c κs = search needs
 
--- src/faults.rt:63:30
 differs-requires-3 : tie.Need-differs-requires-3
 differs-requires-3 c κs = search needs
 
--- src/faults.rt:63:9
 smaller-requires-2 : tie.Need-smaller-requires-2
 smaller-requires-2 c κs = search needs
 
--- src/faults.rt:64:13
 differs-requires-4 : tie.Need-differs-requires-4
 differs-requires-4 c κs = search needs
 
--- src/faults.rt:64:42
 differs-requires-5 : tie.Need-differs-requires-5
 differs-requires-5 c κs = search needs
 
--- src/faults.rt:64:34
 smaller-requires-3 : tie.Need-smaller-requires-3
 smaller-requires-3 c κs = search needs
 
--- src/faults.rt:64:5
 smaller-requires-4 : tie.Need-smaller-requires-4
 smaller-requires-4 c κs = search needs
 
--- src/faults.rt:59:1
 returns : tie.Need-returns
 returns c =
     c .smaller4 .ensures
