@@ -1,3 +1,4 @@
 pub mod WalkedLaws
 pub mod JudgeLaws
 pub mod SourceLaws
+pub mod DecodeLaws

@@ -44,6 +44,7 @@ ghost use Rattle.format.specs.BlockAnswer.{
 ghost use Rattle.lengths.specs.Given.{lengthsFound, lengthsNumber};
 ghost use Rattle.reads.specs.Walked.{walkAnswer, TablesMade, Writable, WalkDone};
 ghost use Rattle.blocks.specs.Judged.{BlockReady, blockWalk, judged};
+ghost use Rattle.blocks.specs.Decoding.{Decodable, Decodes};
 
 // Judges the block at the input's start.
 pub fn validate_block(bases: u64, reference: &[u8], input: &[u8]) -> BlockOutcome
@@ -51,6 +52,73 @@ pub fn validate_block(bases: u64, reference: &[u8], input: &[u8]) -> BlockOutcom
         ≡ validatedBlock bases (now (reference .entry)) (now (input .entry)) ⌝ }
 {
     judge(bases, reference, input, true)
+}
+
+// Decodes the block at the input's start: the letters of its reads one after the other, and the end
+// of each read, counted in letters. Both buffers are as they were where it is refused.
+pub fn decode(
+    bases: u64,
+    reference: &[u8],
+    input: &[u8],
+    letters: &mut [u8],
+    ends: &mut [u32],
+) -> BlockOutcome
+    ensures { λ r. ⌜ (outcomeOfBlock r
+        ≡ decoded bases (now (reference .entry)) (now (input .entry)) (now (letters .entry))
+        (now (ends .entry)))
+        × (now (letters .exit)
+        ≡ decodedLetters bases (now (reference .entry)) (now (input .entry)) (now (letters .entry))
+        (now (ends .entry)))
+        × (now (ends .exit)
+        ≡ decodedEnds bases (now (reference .entry)) (now (input .entry)) (now (letters .entry))
+        (now (ends .entry))) ⌝ }
+{
+    let judgement = judge(bases, reference, input, false);
+    let BlockOutcome::Accepted(bytes, counts) = judgement else {
+        return judgement;
+    };
+    if (letters.len() as u64) < counts.letters {
+        return BlockOutcome::Refused(CAPACITY_TOO_SMALL, 0);
+    }
+    if (ends.len() as u64) < counts.reads {
+        return BlockOutcome::Refused(CAPACITY_TOO_SMALL, 0);
+    }
+    write_block(bases, reference, input, bytes, letters, ends)
+}
+
+// Writes the reads of a block that was judged, of so many bytes, into buffers with room for them.
+fn write_block(
+    bases: u64,
+    reference: &[u8],
+    input: &[u8],
+    bytes: u64,
+    letters: &mut [u8],
+    ends: &mut [u32],
+) -> BlockOutcome
+    requires { ⌜ Decodable bases (now reference) (now input) bytes (length (now letters))
+        (length (now ends)) ⌝ }
+    ensures { λ r. ⌜ Decodes bases (now (reference .entry)) (now (input .entry)) r
+        (now (letters .entry)) (now (letters .exit)) (now (ends .entry)) (now (ends .exit)) ⌝ }
+{
+    let forward = word_table(true);
+    let reverse = word_table(false);
+    let pairs = pair_table();
+    let walked = walk_block(
+        bases,
+        reference,
+        input,
+        true,
+        true,
+        &forward,
+        &reverse,
+        &pairs,
+        letters,
+        ends,
+    );
+    let Walked::At(_, _, counts) = walked else {
+        return BlockOutcome::Refused(0, 0);
+    };
+    BlockOutcome::Accepted(bytes, counts)
 }
 
 // Judges a block with 1 to 21; its differences are counted where `count` is set.

@@ -4,7 +4,7 @@ use Prim.Native.Nat.{ℕ, _+_}
 use native.Mathlib.Omega.{arith}
 use mathlib.Core.Bool.{Bool, true, false, cond}
 use mathlib.Core.List.{List, [], _∷_, map, flatten, map-map}
-use lib.ListN.{length, length-map}
+use lib.ListN.{length, length-map, length-append}
 use Rattle.base.specs.Lists.{total, placesFrom}
 use Rattle.dna.specs.Letters.{recordLetters}
 use Rattle.dna.specs.Counts.{Counted, plus, sumCounts, recordCounts}
@@ -12,6 +12,7 @@ use Rattle.dna.specs.Division.{Division, Read, readsOf, divisionLetters, divisi
 use Rattle.reads.specs.ReadWalk.{Source, FoundRead, readOf}
 use Rattle.reads.specs.Walked.{readLetters, readSize, lettersOf, endsOf, sizeOf, countsWith}
 use Rattle.reads.specs.Walked.{readCounts, readsCounts}
+use Rattle.reads.proofs.TurnLaws.{length-readLetters}
 use Rattle.reads.proofs.ReadLaws.{AllReads}
 
 -- Differences are left out of a sum as of its parts.
@@ -79,3 +80,27 @@ module _ {source : Source} {fixed : Bool} {each : ℕ} {lengths′ : List ℕ} {
     ap total (all .lengths-are),
     sym (length-map (all .arrived .reads) readSize) ∙ ap length (all .lengths-are),
   )
+
+-- ---- What is counted and written of some reads
+
+-- Each read is one, with its letters.
+pub counts-sizes : (differences : Bool) (reference : List ℕ) (reads : List FoundRead)
+    → (readsCounts differences reference reads .reads ≡ length reads)
+    × (readsCounts differences reference reads .letters ≡ sizeOf reads)
+unfolding readsCounts readCounts countsWith recordCounts sumCounts plus sizeOf total readSize
+counts-sizes differences reference [] = (refl, refl)
+counts-sizes differences reference (read ∷ reads) =
+    let more = counts-sizes differences reference reads in (
+      omega (arith, more .0),
+      ap (λ (n : ℕ). read .context .readLength + n) (more .1),
+    )
+
+-- As many letters are written.
+pub length-lettersOf : (reference : List ℕ) (reads : List FoundRead)
+    → length (lettersOf reference reads) ≡ sizeOf reads
+unfolding lettersOf sizeOf total flatten
+length-lettersOf reference [] = refl
+length-lettersOf reference (read ∷ reads) =
+    length-append (readLetters reference read) (lettersOf reference reads)
+    ∙ ap₂ (λ (m n : ℕ). m + n) (length-readLetters reference read)
+    (length-lettersOf reference reads)
