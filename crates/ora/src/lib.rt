@@ -1,14 +1,74 @@
-// The public calls. Each contract is an equation between the answer and a definition, and none has
-// a `requires`: any input is answered. Read specs/BlockAnswer.antt of format for what each call
-// answers; it stands on Header.antt, Sections.antt and HeaderFaults.antt there, and on base. The
-// struct of this interface is put into the paper's terms by specs/Answers.antt.
+// The public calls. Each contract is an equation between the answer and a definition, with the final
+// content of every lent buffer, and none has a `requires`: any input is answered. Read
+// specs/BlockAnswer.antt, FileAnswer.antt and EncodeAnswer.antt of format for what each call answers.
+// The enums of the answers are put into the paper's terms by specs/Answered.antt there, the struct of
+// this interface by specs/Answers.antt.
+use format::BlockOutcome;
+use format::FileOutcome;
 use header::faults::header_fault;
 use header::fields;
 use header::sections;
 ghost use mathlib.Core.Path.{_≡_};
-ghost use Rattle.format.specs.BlockAnswer.{sectionAnswer, spanAnswer, idAnswer};
+ghost use lib.Dec.{eqb};
+ghost use Rattle.format.specs.Answered.{outcomeOfBlock, outcomeOfFile, acceptsFile};
+ghost use Rattle.format.specs.BlockAnswer.{
+  sectionAnswer,
+  spanAnswer,
+  idAnswer,
+  validatedBlock,
+  decoded,
+  decodedLetters,
+  decodedEnds,
+};
+ghost use Rattle.format.specs.FileAnswer.{validated};
 ghost use Rattle.header.specs.Part.{BeginsAt};
 ghost use Rattle.ora.specs.Answers.{spanOf};
+
+// ---- Reading
+
+// Judges the block at the input's start, with 1 to 21: its length and counts, or the refusal.
+pub fn validate_block(bases: u64, reference: &[u8], input: &[u8]) -> BlockOutcome
+    ensures { λ r. ⌜ outcomeOfBlock r
+        ≡ validatedBlock bases (now (reference .entry)) (now (input .entry)) ⌝ }
+{
+    blocks::validate_block(bases, reference, input)
+}
+
+// Decodes the block at the input's start, with 1 to 22: the letters of its reads one after the other,
+// and the end of each, counted in letters. What lies past them stays; a refusal changes nothing.
+pub fn decode(
+    bases: u64,
+    reference: &[u8],
+    input: &[u8],
+    letters: &mut [u8],
+    ends: &mut [u32],
+) -> BlockOutcome
+    ensures { λ r. ⌜ (outcomeOfBlock r
+        ≡ decoded bases (now (reference .entry)) (now (input .entry)) (now (letters .entry))
+        (now (ends .entry)))
+        × (now (letters .exit)
+        ≡ decodedLetters bases (now (reference .entry)) (now (input .entry)) (now (letters .entry))
+        (now (ends .entry)))
+        × (now (ends .exit)
+        ≡ decodedEnds bases (now (reference .entry)) (now (input .entry)) (now (letters .entry))
+        (now (ends .entry))) ⌝ }
+{
+    blocks::decode(bases, reference, input, letters, ends)
+}
+
+// Judges a file block by block, with 1 to 21: the number of its blocks and the sums of their counts
+// modulo 2 ^ 64, or the first refusal with the block's index. It is this answer that demand 3 speaks
+// of.
+pub fn validate(bases: u64, reference: &[u8], file: &[u8]) -> FileOutcome
+    ensures { λ r. ⌜ (outcomeOfFile r
+        ≡ validated bases (now (reference .entry)) (now (file .entry)))
+        × (acceptsFile r
+        ≡ eqb (validated bases (now (reference .entry)) (now (file .entry)) .number) 0) ⌝ }
+{
+    files::validate(bases, reference, file)
+}
+
+// ---- Looking into a block
 
 // Where a section stands in the block, in bytes.
 pub struct Span {
