@@ -70,7 +70,7 @@ none-any test [] d h = refl
 none-any test (x ∷ xs) d h = neither-or _ _ (h 0 (omega arith)) (none-any test xs d (λ k l. h (suc k) (omega arith)))
 
 -- Without an N there are no offsets.
-n-none : (codes : List ℕ) → member 4 codes ≡ false → nOffsetsOf codes ≡ []
+pub n-none : (codes : List ℕ) → member 4 codes ≡ false → nOffsetsOf codes ≡ []
 unfolding nOffsetsOf member placesWhere stepsFrom
 n-none codes e =
     ap (stepsFrom 0)
@@ -81,7 +81,7 @@ no-list : (list : List ℕ) → length list ≤ 0 → length list ≡ 0
 no-list list h = omega arith
 
 -- With an N there is one.
-n-some : (codes : List ℕ) → member 4 codes ≡ true → 1 ≤ length (nOffsetsOf codes)
+pub n-some : (codes : List ℕ) → member 4 codes ≡ true → 1 ≤ length (nOffsetsOf codes)
 unfolding nOffsetsOf member placesWhere
 n-some codes e =
     let test : ℕ → Bool = λ k. eqb (getD codes k 0) 4 in

@@ -1,0 +1,4 @@
+pub mod ChosenLaws
+pub mod PositionLaws
+pub mod FieldLaws
+pub mod PartLaws

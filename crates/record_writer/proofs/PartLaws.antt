@@ -1,0 +1,87 @@
+-- A record that is written part by part: flag byte, position, entries, ends. Assumes nothing.
+use mathlib.Core.Path.{_≡_, refl, sym, ap, ap₂, _∙_}
+use Prim.Native.Nat.{ℕ, _+_, _*_, _≤_, _<_}
+use native.Mathlib.Omega.{arith}
+use mathlib.Core.List.{List, [], _∷_}
+use lib.ListN.{length, take, set, length-set}
+use Rattle.base.specs.Packed.{packedLength}
+use Rattle.base.specs.Paste.{pasted}
+use Rattle.base.proofs.PasteLaws.{length-pasted, set-pasted, pasted-then}
+use Rattle.dna.specs.Record.{packedBytes}
+use Rattle.dna.specs.declared.Placement.{Placement}
+use Rattle.format.specs.RuleRecord.{padded}
+use Rattle.letter_packing.specs.Read.{endCodes}
+use Rattle.record_writer.specs.Written.{positionBytes, alignedBytes, localBytes}
+use Rattle.record_writer.proofs.FieldLaws.{length-aligned, length-local}
+
+-- A byte is stored, and what comes after it written.
+pub stored-then : (out new : List ℕ) (at byte next : ℕ) (rest : List ℕ) → at < length out
+    → next ≡ at + 1 → new ≡ pasted (set out at byte) next rest → new ≡ pasted out at (byte ∷ rest)
+stored-then out new at byte next rest room there written =
+    pasted-then out (set out at byte) new at next (byte ∷ []) rest (omega arith) there
+    (set-pasted out at byte room) written
+
+-- ---- Flag byte, position and entries
+
+module _ (bit previous position : ℕ) (list : List ℕ) (n : ℕ) (fits : n ≤ length list)
+    (out : List ℕ) (at : ℕ)
+    (room : at + length (alignedBytes bit previous position list n) ≤ length out) where
+  abbrev place : List ℕ
+  place = positionBytes previous position
+
+  pub aligned-room : at + 1 + length place + n ≤ length out
+  aligned-room = omega (arith, length-aligned bit previous position list n fits)
+
+  pub aligned-written : (two three : List ℕ) (next last : ℕ)
+      → two ≡ pasted (set out at (n * 8 + bit)) (at + 1) place → next ≡ at + 1 + length place
+      → three ≡ pasted two next (take n list) → last ≡ next + n
+      → (three ≡ pasted out at (alignedBytes bit previous position list n))
+      × (last ≡ at + length (alignedBytes bit previous position list n))
+  unfolding alignedBytes
+  aligned-written two three next last e₁ there e₂ after = (
+    stored-then out three at (n * 8 + bit) (at + 1) _ (omega (arith, aligned-room)) refl
+        (pasted-then (set out at (n * 8 + bit)) two three (at + 1) next place (take n list)
+        (simp length-set (omega (arith, aligned-room))) there e₁ e₂),
+    omega (arith, length-aligned bit previous position list n fits),
+  )
+
+-- ---- The ends after them
+
+module _ (placement : Placement) (previous : ℕ) (list : List ℕ) (n : ℕ) (codes out : List ℕ) (at : ℕ)
+    (clips : placement .left + placement .right ≤ length codes)
+    (room : at + length (localBytes placement previous list n codes) ≤ length out) where
+  abbrev front : List ℕ
+  front = alignedBytes 0 previous (placement .position) list n
+
+  pub local-room :
+      at + length front + 2 + packedLength 4 (placement .left + placement .right) ≤ length out
+  local-room = omega (arith, length-local placement previous list n codes clips)
+
+  pub local-written : (one new : List ℕ) (next left right last : ℕ) → one ≡ pasted out at front
+      → next ≡ at + length front → left ≡ placement .left → right ≡ placement .right
+      → new
+      ≡ pasted (set (set one next (placement .left)) (next + 1) (placement .right)) (next + 2)
+      (packedBytes 4 4 (padded 4 (endCodes left right codes)))
+      → last ≡ next + 2 + packedLength 4 (left + right)
+      → (new ≡ pasted out at (localBytes placement previous list n codes))
+      × (last ≡ at + length (localBytes placement previous list n codes))
+  unfolding localBytes
+  local-written one new next left right last e₁ there is₁ is₂ e₂ after =
+      let same : length one ≡ length out =
+      ap length e₁ ∙ length-pasted out at front (omega (arith, local-room)) in
+      let size : length (set one next (placement .left)) ≡ length one = length-set one next _ in
+      let ends : List ℕ =
+      packedBytes 4 4 (padded 4 (endCodes (placement .left) (placement .right) codes)) in
+      let packed : packedBytes 4 4 (padded 4 (endCodes left right codes)) ≡ ends =
+      ap₂ (λ (l r : ℕ). packedBytes 4 4 (padded 4 (endCodes l r codes))) is₁ is₂ in
+      let count : packedLength 4 (left + right) ≡ packedLength 4 (placement .left + placement .right) =
+      ap₂ (λ (l r : ℕ). packedLength 4 (l + r)) is₁ is₂ in (
+        pasted-then out one new at next front (placement .left ∷ placement .right ∷ ends)
+            (omega (arith, local-room)) there e₁
+            (stored-then one new next (placement .left) (next + 1) (placement .right ∷ ends)
+            (omega (arith, local-room)) refl
+            (stored-then (set one next (placement .left)) new (next + 1) (placement .right) (next + 2)
+            ends (omega (arith, local-room)) (omega arith)
+            (e₂ ∙ ap (pasted _ (next + 2)) packed))),
+        omega (arith, length-local placement previous list n codes clips),
+      )
