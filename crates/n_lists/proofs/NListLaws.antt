@@ -42,14 +42,14 @@ module _ (letters : List ℕ) (from to count : ℕ) (fits : NListFits letters fr
   bytes = nListBytes (nOffsetsOf (codesIn letters from to))
 
   pub count-places : count ≡ length (nPlaces letters from to)
-  count-places = fits .counted ∙ count-offsets letters from to (fits .ordered) (fits .inside)
+  count-places = fits .counted ∙ count-offsets letters from to (fits .lies .ordered) (fits .lies .inside)
 
   -- The count, then the offsets.
   list-bytes : bytes ≡ count ∷ stepBytes from (nPlaces letters from to)
   unfolding nListBytes
   list-bytes =
       ap₂ (λ (n : ℕ) (offsets : List ℕ). n ∷ flatMap varint16Bytes offsets) (sym (fits .counted))
-      (offsets-places letters from to (fits .ordered) (fits .inside))
+      (offsets-places letters from to (fits .lies .ordered) (fits .lies .inside))
 
   pub length-list : length bytes ≡ 1 + length (stepBytes from (nPlaces letters from to))
   length-list = ap length list-bytes ∙ omega arith
@@ -132,7 +132,7 @@ unfolding nListBytes nOffsetsOf
 short-list letters from to count fits short =
     let codes : List ℕ = codesIn letters from to in
     let places : List ℕ = placesWhere (λ k. eqb (getD codes k 0) 4) (length codes) in
-    let size : length codes ≡ to - from = length-codesIn letters from to (fits .ordered) (fits .inside) in
+    let size : length codes ≡ to - from = length-codesIn letters from to (fits .lies .ordered) (fits .lies .inside) in
     omega (
       arith,
       fits .counted,

@@ -8,10 +8,9 @@ use lib.Dec.{eqb}
 use Rattle.base.specs.Lists.{build, keep}
 use Rattle.dna.specs.Reference.{codeN}
 use Rattle.dna.specs.Record.{maxNPositions}
-use Rattle.dna.specs.Sizes.{maxReadLength}
 use Rattle.format.specs.RuleRecord.{nOffsetsOf}
 use Rattle.format.specs.RuleBlock.{codeOfLetter}
-use Rattle.letter_packing.specs.Read.{codesIn}
+use Rattle.letter_packing.specs.Read.{ReadLies, codesIn}
 
 -- The places of the letters N from `from` to `to`, in order.
 unfoldable pub nPlaces : (letters : List ℕ) (from to : ℕ) → List ℕ
@@ -22,10 +21,8 @@ nPlaces letters from to =
 abbrev pub chunkSize : ℕ
 chunkSize = 192
 
--- The read lies in the buffer, and `count` of its letters are N, no more than a list may name.
+-- A read with `count` letters N, no more than a list may name.
 pub record NListFits (letters : List ℕ) (from to count : ℕ) : Type 0 where
-  pub ordered : from ≤ to
-  pub inside : to ≤ length letters
-  pub sized : to ≤ from + maxReadLength
+  pub lies : ReadLies letters from to
   pub counted : count ≡ length (nOffsetsOf (codesIn letters from to))
   pub few : count ≤ maxNPositions

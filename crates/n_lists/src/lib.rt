@@ -8,7 +8,7 @@ use varint16::put_words;
 use varint16::words_length;
 ghost use mathlib.Core.Path.{_≡_};
 ghost use mathlib.Core.Bool.{cond};
-ghost use Prim.Native.Nat.{_+_, _-_, _≤_, _<_, min};
+ghost use Prim.Native.Nat.{_+_, _-_, _^_, _≤_, _<_, min};
 ghost use lib.ListN.{length, getD};
 ghost use lib.Dec.{eqb};
 ghost use Rattle.base.specs.Paste.{pasted};
@@ -83,8 +83,9 @@ fn one_if_n(letter: u8) -> u8
 // How many bytes the N list of a read with `count` letters N takes.
 pub fn n_list_length(letters: &[u8], from: usize, to: usize, count: usize) -> usize
     requires { ⌜ NListFits (now letters) from to count ⌝ }
-    ensures { λ r. ⌜ r
-        ≡ length (nListBytes (nOffsetsOf (codesIn (now (letters .entry)) from to))) ⌝ }
+    ensures { λ r. ⌜ (r
+        ≡ length (nListBytes (nOffsetsOf (codesIn (now (letters .entry)) from to))))
+        × (r ≤ 2 ^ 23) ⌝ }
 {
     if to - from <= WORD_ESCAPE as usize {
         return 1 + 2 * count;
@@ -95,8 +96,9 @@ pub fn n_list_length(letters: &[u8], from: usize, to: usize, count: usize) -> us
 // The same for a read in which an offset can take more than one word.
 fn long_list_length(letters: &[u8], from: usize, to: usize, count: usize) -> usize
     requires { ⌜ NListFits (now letters) from to count ⌝ }
-    ensures { λ r. ⌜ r
-        ≡ length (nListBytes (nOffsetsOf (codesIn (now (letters .entry)) from to))) ⌝ }
+    ensures { λ r. ⌜ (r
+        ≡ length (nListBytes (nOffsetsOf (codesIn (now (letters .entry)) from to))))
+        × (r ≤ 2 ^ 23) ⌝ }
 {
     let mut sum: usize = 1;
     let mut before = from;

@@ -33,7 +33,7 @@ module _ (bases : ℕ) (reference : List ℕ) (previous : ℕ) (codes : List ℕ
   aligned : recordWritten bases previous (alignedRecord candidate (length entries)) entries codes
       ≡ writtenAs chooseAligned bases reference previous codes candidate
   unfolding recordWritten writtenAs alignedRecord alignedFields placementOf fieldsFor offsetsFor
-    forwardFor incrementalFor storedPosition endCodes clippedCodes alignedCount isPerfect
+      forwardFor incrementalFor storedPosition endCodes clippedCodes alignedCount isPerfect
   aligned =
       by-test (eqb (candidate .left + candidate .right) 0)
       (λ t.
@@ -47,7 +47,7 @@ module _ (bases : ℕ) (reference : List ℕ) (previous : ℕ) (codes : List ℕ
       → recordWritten bases previous (chosenRecord choice candidate (length entries)) entries codes
       ≡ writtenAs choice bases reference previous codes candidate
   unfolding recordWritten writtenAs chosenRecord fieldsFor offsetsFor forwardFor incrementalFor
-    isPerfect
+      isPerfect
   chosen-as chooseRaw4 = refl
   chosen-as chooseAligned = aligned
   chosen-as chooseRaw = refl

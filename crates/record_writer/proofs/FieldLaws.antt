@@ -24,6 +24,7 @@ use Rattle.letter_packing.proofs.ReadLaws.{length-endCodes}
 use Rattle.letter_packing.proofs.PieceLaws.{packed-padded}
 use Rattle.record_writer.specs.Written.{fieldsFor, incrementalFor, recordWritten}
 use Rattle.record_writer.specs.Written.{fieldsWritten, positionBytes, alignedBytes, localBytes}
+use Rattle.record_writer.specs.Written.{rawBytes, raw4Bytes}
 
 -- ---- Entries
 
@@ -47,20 +48,21 @@ entries-read entries list fit room written =
 
 -- ---- Bytes
 
+pub perfect-fields : (previous : ℕ) (placement : Placement) (entries : List Entry) (codes : List ℕ)
+    → fieldsWritten previous (kinds.Perfect placement) entries codes
+    ≡ positionBytes previous (placement .position)
+unfolding fieldsWritten recordWritten fieldsFor incrementalFor fieldsBytes fieldWidth positionBytes
+perfect-fields previous placement entries codes = refl
+
 module _ (previous : ℕ) (placement : Placement) (list : List ℕ) (n : ℕ) (fits : n ≤ length list)
     (codes : List ℕ) where
   abbrev entries : List Entry
   entries = entriesAt list 0 n
 
-  pub perfect-fields : fieldsWritten previous (kinds.Perfect placement) entries codes
-      ≡ positionBytes previous (placement .position)
-  unfolding fieldsWritten recordWritten fieldsFor incrementalFor fieldsBytes fieldWidth positionBytes
-  perfect-fields = refl
-
   pub global-fields : fieldsWritten previous (kinds.Global placement) entries codes
       ≡ alignedBytes 4 previous (placement .position) list n
   unfolding fieldsWritten recordWritten fieldsFor incrementalFor fieldsBytes flagByteOf fieldWidth
-    positionBytes alignedBytes
+      positionBytes alignedBytes
   global-fields =
       ap₂
       (λ (count : ℕ) (bytes : List ℕ).
@@ -70,7 +72,7 @@ module _ (previous : ℕ) (placement : Placement) (list : List ℕ) (n : ℕ) (f
   pub local-fields : fieldsWritten previous (kinds.Local placement) entries codes
       ≡ localBytes placement previous list n codes
   unfolding fieldsWritten recordWritten fieldsFor incrementalFor fieldsBytes flagByteOf fieldWidth
-    positionBytes alignedBytes localBytes
+      positionBytes alignedBytes localBytes
   local-fields =
       let ends : List ℕ =
       placement .left
@@ -84,15 +86,15 @@ module _ (previous : ℕ) (placement : Placement) (list : List ℕ) (n : ℕ) (f
       ∙ ap (λ (bytes : List ℕ). (n * 8 + 0) ∷ bytes)
       (sym (append-assoc (positionBytes previous (placement .position)) (take n list) ends))
 
-  pub raw-fields : fieldsWritten previous kinds.Raw entries codes
-      ≡ 2 ∷ packedBytes 4 4 (padded 4 (map withoutN codes))
-  unfolding fieldsWritten recordWritten fieldsFor incrementalFor fieldsBytes flagByteOf
-  raw-fields = refl
+pub raw-fields : (previous : ℕ) (entries : List Entry) (codes : List ℕ)
+    → fieldsWritten previous kinds.Raw entries codes ≡ rawBytes codes
+unfolding fieldsWritten recordWritten fieldsFor incrementalFor fieldsBytes flagByteOf rawBytes
+raw-fields previous entries codes = refl
 
-  pub raw4-fields : fieldsWritten previous kinds.Raw4 entries codes
-      ≡ 1 ∷ packedBytes 16 2 (padded 2 codes)
-  unfolding fieldsWritten recordWritten fieldsFor incrementalFor fieldsBytes flagByteOf
-  raw4-fields = refl
+pub raw4-fields : (previous : ℕ) (entries : List Entry) (codes : List ℕ)
+    → fieldsWritten previous kinds.Raw4 entries codes ≡ raw4Bytes codes
+unfolding fieldsWritten recordWritten fieldsFor incrementalFor fieldsBytes flagByteOf raw4Bytes
+raw4-fields previous entries codes = refl
 
 -- ---- Their number
 
@@ -128,12 +130,15 @@ length-local placement previous list n codes fits =
     length-append (alignedBytes 0 previous (placement .position) list n) _
     ∙ omega (arith, length-ends (placement .left) (placement .right) codes fits)
 
-pub length-raw : (codes : List ℕ) → length (packedBytes 4 4 (padded 4 (map withoutN codes)))
-    ≡ packedLength 4 (length codes)
+pub length-raw : (codes : List ℕ) → length (rawBytes codes) ≡ 1 + packedLength 4 (length codes)
+unfolding rawBytes
 length-raw codes =
-    length-padded 4 4 (map withoutN codes) (omega arith)
-    ∙ ap (packedLength 4) (length-map codes withoutN)
+    omega (
+      arith,
+      length-padded 4 4 (map withoutN codes) (omega arith),
+      ap (packedLength 4) (length-map codes withoutN),
+    )
 
-pub length-raw4 : (codes : List ℕ) → length (packedBytes 16 2 (padded 2 codes))
-    ≡ packedLength 2 (length codes)
-length-raw4 codes = length-padded 16 2 codes (omega arith)
+pub length-raw4 : (codes : List ℕ) → length (raw4Bytes codes) ≡ 1 + packedLength 2 (length codes)
+unfolding raw4Bytes
+length-raw4 codes = omega (arith, length-padded 16 2 codes (omega arith))

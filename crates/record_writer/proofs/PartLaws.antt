@@ -1,6 +1,7 @@
 -- A record that is written part by part: flag byte, position, entries, ends. Assumes nothing.
 use mathlib.Core.Path.{_≡_, refl, sym, ap, ap₂, _∙_}
-use Prim.Native.Nat.{ℕ, _+_, _*_, _≤_, _<_}
+use Prim.Native.Nat.{ℕ, _+_, _-_, _*_, _≤_, _<_}
+use native.Mathlib.Nat.{add-zero}
 use native.Mathlib.Omega.{arith}
 use mathlib.Core.List.{List, [], _∷_}
 use lib.ListN.{length, take, set, length-set}
@@ -10,9 +11,12 @@ use Rattle.base.proofs.PasteLaws.{length-pasted, set-pasted, pasted-then}
 use Rattle.dna.specs.Record.{packedBytes}
 use Rattle.dna.specs.declared.Placement.{Placement}
 use Rattle.format.specs.RuleRecord.{padded}
-use Rattle.letter_packing.specs.Read.{endCodes}
-use Rattle.record_writer.specs.Written.{positionBytes, alignedBytes, localBytes}
-use Rattle.record_writer.proofs.FieldLaws.{length-aligned, length-local}
+use Rattle.letter_packing.specs.Read.{ReadLies, codesIn, endCodes}
+use Rattle.letter_packing.proofs.ReadLaws.{length-codesIn, endCodes-whole}
+use Rattle.record_writer.specs.Written.{positionBytes, alignedBytes, localBytes, rawBytes}
+use Rattle.record_writer.specs.Written.{raw4Bytes}
+use Rattle.record_writer.proofs.FieldLaws.{length-aligned, length-local, length-raw}
+use Rattle.record_writer.proofs.FieldLaws.{length-raw4}
 
 -- A byte is stored, and what comes after it written.
 pub stored-then : (out new : List ℕ) (at byte next : ℕ) (rest : List ℕ) → at < length out
@@ -85,3 +89,55 @@ module _ (placement : Placement) (previous : ℕ) (list : List ℕ) (n : ℕ) (c
             (e₂ ∙ ap (pasted _ (next + 2)) packed))),
         omega (arith, length-local placement previous list n codes clips),
       )
+
+-- ---- Raw letters
+
+module _ (letters : List ℕ) (from to : ℕ) (lies : ReadLies letters from to) (out : List ℕ) (at : ℕ) where
+  abbrev codes : List ℕ
+  codes = codesIn letters from to
+
+  size : length codes ≡ to - from
+  size = length-codesIn letters from to (lies .ordered) (lies .inside)
+
+  pub raw-room : at + length (rawBytes codes) ≤ length out
+      → at + 1 + packedLength 4 (to - from + 0) ≤ length out
+  raw-room room =
+      omega (
+        arith,
+        length-raw codes,
+        ap (packedLength 4) (add-zero (to - from)),
+        ap (packedLength 4) size,
+      )
+
+  -- All letters are those of a left end that is the whole read.
+  pub raw-written : (new : List ℕ) (last : ℕ) → at + length (rawBytes codes) ≤ length out
+      → new
+      ≡ pasted (set out at 2) (at + 1) (packedBytes 4 4 (padded 4 (endCodes (to - from) 0 codes)))
+      → last ≡ at + 1 + packedLength 4 (to - from + 0)
+      → (new ≡ pasted out at (rawBytes codes)) × (last ≡ at + length (rawBytes codes))
+  unfolding rawBytes
+  raw-written new last room written after = (
+    stored-then out new at 2 (at + 1) _ (omega (arith, raw-room room)) refl written
+        ∙ ap (λ (ends : List ℕ). pasted out at (2 ∷ packedBytes 4 4 (padded 4 ends)))
+        (ap (λ (n : ℕ). endCodes n 0 codes) (sym size) ∙ endCodes-whole codes),
+    omega (
+      arith,
+      length-raw codes,
+      ap (packedLength 4) (add-zero (to - from)),
+      ap (packedLength 4) size,
+    ),
+  )
+
+  pub raw4-room : at + length (raw4Bytes codes) ≤ length out
+      → at + 1 + packedLength 2 (to - from) ≤ length out
+  raw4-room room = omega (arith, length-raw4 codes, ap (packedLength 2) size)
+
+  pub raw4-written : (new : List ℕ) (last : ℕ) → at + length (raw4Bytes codes) ≤ length out
+      → new ≡ pasted (set out at 1) (at + 1) (packedBytes 16 2 (padded 2 codes))
+      → last ≡ at + 1 + packedLength 2 (to - from)
+      → (new ≡ pasted out at (raw4Bytes codes)) × (last ≡ at + length (raw4Bytes codes))
+  unfolding raw4Bytes
+  raw4-written new last room written after = (
+    stored-then out new at 1 (at + 1) _ (omega (arith, raw4-room room)) refl written,
+    omega (arith, length-raw4 codes, ap (packedLength 2) size),
+  )

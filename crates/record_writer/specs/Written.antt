@@ -111,6 +111,13 @@ localBytes placement previous list entries codes =
     ∷ placement .right
     ∷ packedBytes 4 4 (padded 4 (endCodes (placement .left) (placement .right) codes)))
 
+-- The bytes of a raw record and of a raw4 record: a flag byte and the letters.
+unfoldable pub rawBytes : (codes : List ℕ) → List ℕ
+rawBytes codes = 2 ∷ packedBytes 4 4 (padded 4 (map withoutN codes))
+
+unfoldable pub raw4Bytes : (codes : List ℕ) → List ℕ
+raw4Bytes codes = 1 ∷ packedBytes 16 2 (padded 2 codes)
+
 -- Whether an N list follows, where `count` letters are N: not in raw4.
 unfoldable pub listStored : (record′ : Record) (count : ℕ) → Bool
 listStored (kinds.Perfect placement) count = ltb 0 count
@@ -126,21 +133,20 @@ pub record PlacementFits (placement : Placement) (size : ℕ) : Type 0 where
   pub position : placement .position < 2 ^ 32
   pub clips : placement .left + placement .right < size
 
--- A record of a read of `size` letters, `count` of them N: no more than a list may name.
-abbrev pub KindFits : (record′ : Record) (size count : ℕ) → Type 0
-KindFits (kinds.Perfect placement) size count =
-    PlacementFits placement size × (count ≤ maxNPositions)
-KindFits (kinds.Global placement) size count =
-    PlacementFits placement size × (count ≤ maxNPositions)
-KindFits (kinds.Local placement) size count =
-    PlacementFits placement size × (count ≤ maxNPositions)
-KindFits kinds.Raw size count = count ≤ maxNPositions
-KindFits kinds.Raw4 size count = Unit {0}
+-- The placement of a record lies within a read of `size` letters; a raw kind has none.
+abbrev pub KindFits : (record′ : Record) (size : ℕ) → Type 0
+KindFits (kinds.Perfect placement) size = PlacementFits placement size
+KindFits (kinds.Global placement) size = PlacementFits placement size
+KindFits (kinds.Local placement) size = PlacementFits placement size
+KindFits kinds.Raw size = Unit {0}
+KindFits kinds.Raw4 size = Unit {0}
 
--- A record of a read that lies in the letters, with `count` letters N, and `entries` entries.
+-- A record that can be written: its read lies in the letters and has `count` letters N, no more
+-- than a list may name where one is stored, and there are no more entries than can be counted.
 pub record Writable (record′ : Record) (entries : ℕ) (letters : List ℕ) (from to count : ℕ) : Type 0
-    where
-  pub lies : ReadLies letters from to
-  pub counted : count ≡ length (nOffsetsOf (codesIn letters from to))
-  pub few : entries ≤ maxEntries
-  pub kind : KindFits record′ (to - from) count
+  where
+    pub lies : ReadLies letters from to
+    pub counted : count ≡ length (nOffsetsOf (codesIn letters from to))
+    pub listed : listStored record′ count ≡ true → count ≤ maxNPositions
+    pub few : entries ≤ maxEntries
+    pub kind : KindFits record′ (to - from)

@@ -14,14 +14,14 @@ use n_lists::put_n_list;
 use packing::packed_length2;
 use packing::packed_length4;
 ghost use mathlib.Core.Path.{_≡_};
-ghost use mathlib.Core.List.{List, _∷_, map};
+ghost use mathlib.Core.List.{List};
 ghost use Prim.Native.Nat.{ℕ, _+_, _-_, _*_, _^_, _≤_, _<_};
 ghost use lib.ListN.{length, take};
-ghost use Rattle.base.specs.Packed.{packedLength};
 ghost use Rattle.base.specs.Paste.{pasted};
-ghost use Rattle.dna.specs.Record.{maxEntries, Entry, packedBytes};
+ghost use Rattle.dna.specs.Record.{maxEntries, Entry};
 ghost use Rattle.dna.specs.RecordAt.{entriesAt};
-ghost use Rattle.format.specs.RuleRecord.{padded, withoutN, stepFits};
+ghost use Rattle.dna.specs.Sizes.{maxReadLength};
+ghost use Rattle.format.specs.RuleRecord.{stepFits};
 ghost use Rattle.letter_packing.specs.Read.{ReadLies, codesIn};
 ghost use Rattle.record_writer.specs.Written.{
   fieldsWritten,
@@ -29,18 +29,101 @@ ghost use Rattle.record_writer.specs.Written.{
   positionBytes,
   alignedBytes,
   localBytes,
+  rawBytes,
+  raw4Bytes,
   listStored,
   PlacementFits,
+  KindFits,
   Writable,
 };
 
 // The bits of a flag byte that name a kind; a local record has none.
 const GLOBAL_BIT: u8 = 4;
+
 const RAW_BIT: u8 = 2;
+
 const RAW4_BIT: u8 = 1;
 
 // The largest step that pos_t stores.
 const MAX_STEP: u64 = 65535;
+
+// ---- The record
+
+// How many bytes a record with so many entries takes; `count` letters of its read are N.
+pub fn record_length(
+    record: Record,
+    previous: u64,
+    entries: usize,
+    letters: &[u8],
+    from: usize,
+    to: usize,
+    count: usize,
+) -> usize
+    requires { ⌜ Writable «record» entries (now letters) from to count ⌝ }
+    ensures { λ r. ⌜ ((written : List Entry) → length written ≡ entries
+        → r ≡ length (writtenBytes previous «record» written
+        (codesIn (now (letters .entry)) from to))) ⌝ }
+{
+    let fields = fields_length(record, previous, entries, to - from);
+    if list_stored(record, count) {
+        return fields + n_list_length(letters, from, to, count);
+    }
+    fields
+}
+
+// Writes a record; the answer is the place after it. Its entries are the first bytes of `list`.
+pub fn put_record(
+    record: Record,
+    previous: u64,
+    list: &[u8],
+    entries: usize,
+    letters: &[u8],
+    from: usize,
+    to: usize,
+    count: usize,
+    out: &mut [u8],
+    at: usize,
+) -> usize
+    requires { ⌜ (Writable «record» entries (now letters) from to count)
+        × (entries ≤ length (now list)) ⌝ }
+    requires { ⌜ at + length (writtenBytes previous «record» (entriesAt (now list) 0 entries)
+        (codesIn (now letters) from to)) ≤ length (now out) ⌝ }
+    ensures { λ r. ⌜ (now (out .exit) ≡ pasted (now (out .entry)) at
+        (writtenBytes previous «record» (entriesAt (now (list .entry)) 0 entries)
+        (codesIn (now (letters .entry)) from to)))
+        × (r ≡ at + length (writtenBytes previous «record»
+        (entriesAt (now (list .entry)) 0 entries) (codesIn (now (letters .entry)) from to))) ⌝ }
+{
+    let next = put_fields(
+        record,
+        previous,
+        list,
+        entries,
+        letters,
+        from,
+        to,
+        count,
+        out,
+        at,
+    );
+    if list_stored(record, count) {
+        return put_n_list(letters, from, to, count, out, next);
+    }
+    next
+}
+
+// Whether an N list follows, where `count` letters are N.
+fn list_stored(record: Record, count: usize) -> bool
+    ensures { λ r. ⌜ r ≡ listStored «record» count ⌝ }
+{
+    match record {
+        Record::Perfect(_) => 0 < count,
+        Record::Global(_) => 0 < count,
+        Record::Local(_) => 0 < count,
+        Record::Raw => 0 < count,
+        Record::Raw4 => false,
+    }
+}
 
 // ---- The position
 
@@ -81,6 +164,25 @@ fn put_position(previous: u64, position: u64, out: &mut [u8], at: usize) -> usiz
 }
 
 // ---- The fields
+
+// How many bytes a record with so many entries takes up to its N list; its read has `size` letters.
+fn fields_length(record: Record, previous: u64, entries: usize, size: usize) -> usize
+    requires { ⌜ (KindFits «record» size) × (entries ≤ maxEntries) × (size ≤ maxReadLength) ⌝ }
+    ensures { λ r. ⌜ ((written : List Entry) (codes : List ℕ) → length written ≡ entries
+        → length codes ≡ size
+        → r ≡ length (fieldsWritten previous «record» written codes)) × (r ≤ 2 ^ 20) ⌝ }
+{
+    match record {
+        Record::Perfect(placement) => position_length(previous, placement.position),
+        Record::Global(placement) => { 1 + position_length(previous, placement.position) + entries }
+        Record::Local(placement) => {
+            let ends = size8(placement.left) + size8(placement.right);
+            3 + position_length(previous, placement.position) + entries + packed_length2(ends)
+        }
+        Record::Raw => 1 + packed_length2(size),
+        Record::Raw4 => 1 + packed_length4(size),
+    }
+}
 
 // Writes the bytes of a record up to its N list; the answer is the place after them.
 fn put_fields(
@@ -202,11 +304,11 @@ fn put_local(
 
 // Writes a raw record: its flag byte, and all letters at 2 bits.
 fn put_raw(letters: &[u8], from: usize, to: usize, out: &mut [u8], at: usize) -> usize
-    requires { ⌜ (ReadLies (now letters) from to)
-        × (at + 1 + packedLength 4 (to - from) ≤ length (now out)) ⌝ }
-    ensures { λ r. ⌜ (now (out .exit) ≡ pasted (now (out .entry)) at
-        (2 ∷ packedBytes 4 4 (padded 4 (map withoutN (codesIn (now (letters .entry)) from to)))))
-        × (r ≡ at + 1 + packedLength 4 (to - from)) ⌝ }
+    requires { ⌜ ReadLies (now letters) from to ⌝ }
+    requires { ⌜ at + length (rawBytes (codesIn (now letters) from to)) ≤ length (now out) ⌝ }
+    ensures { λ r. ⌜ (now (out .exit)
+        ≡ pasted (now (out .entry)) at (rawBytes (codesIn (now (letters .entry)) from to)))
+        × (r ≡ at + length (rawBytes (codesIn (now (letters .entry)) from to))) ⌝ }
 {
     out[at] = RAW_BIT;
     put_ends(letters, from, to, to - from, 0, out, at + 1)
@@ -214,11 +316,11 @@ fn put_raw(letters: &[u8], from: usize, to: usize, out: &mut [u8], at: usize) ->
 
 // Writes a raw4 record: its flag byte, and all letters at 4 bits.
 fn put_raw4(letters: &[u8], from: usize, to: usize, out: &mut [u8], at: usize) -> usize
-    requires { ⌜ (ReadLies (now letters) from to)
-        × (at + 1 + packedLength 2 (to - from) ≤ length (now out)) ⌝ }
-    ensures { λ r. ⌜ (now (out .exit) ≡ pasted (now (out .entry)) at
-        (1 ∷ packedBytes 16 2 (padded 2 (codesIn (now (letters .entry)) from to))))
-        × (r ≡ at + 1 + packedLength 2 (to - from)) ⌝ }
+    requires { ⌜ ReadLies (now letters) from to ⌝ }
+    requires { ⌜ at + length (raw4Bytes (codesIn (now letters) from to)) ≤ length (now out) ⌝ }
+    ensures { λ r. ⌜ (now (out .exit)
+        ≡ pasted (now (out .entry)) at (raw4Bytes (codesIn (now (letters .entry)) from to)))
+        × (r ≡ at + length (raw4Bytes (codesIn (now (letters .entry)) from to))) ⌝ }
 {
     out[at] = RAW4_BIT;
     put_pairs(letters, from, to, out, at + 1)

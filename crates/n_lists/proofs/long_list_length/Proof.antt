@@ -35,20 +35,20 @@ loop-holds c =
     let fits = c .before .pre in (
       omega arith,
       omega arith,
-      fits .ordered,
+      fits .lies .ordered,
       omega (arith, count-places (a .letters .now) (a .from) (a .to) (a .count) fits),
       refl,
       omega arith,
     )
 
 next-n-requires : tie.Need-next-n-requires Inv-loop μ-loop
-next-n-requires c κs = (c .before .loop .inv .2, c .before .before .before .pre .inside)
+next-n-requires c κs = (c .before .loop .inv .2, c .before .before .before .pre .lies .inside)
 
 sub-words-length : tie.Need-sub-words-length Inv-loop μ-loop
 sub-words-length c = omega (arith, first c .low)
 
 cast-words-length : tie.Need-cast-words-length Inv-loop μ-loop
-cast-words-length c = omega (arith, first c .low, first c .high, c .before .before .before .before .pre .sized)
+cast-words-length c = omega (arith, first c .low, first c .high, c .before .before .before .before .pre .lies .sized)
 
 words-length-requires : tie.Need-words-length-requires Inv-loop μ-loop
 words-length-requires c κs = search needs
@@ -58,7 +58,7 @@ add-sum c =
     omega (arith, c .words-length .ensures .1, c .before .before .before .loop .inv .5, c .before .before .before .before .before .pre .few, c .before .before .loop-test .taken)
 
 add-i : tie.Need-add-i Inv-loop μ-loop
-add-i c = omega (arith, first (c .before) .high, c .before .before .before .before .before .pre .inside)
+add-i c = omega (arith, first (c .before) .high, c .before .before .before .before .before .pre .lies .inside)
 
 add-k : tie.Need-add-k Inv-loop μ-loop
 add-k c = search needs
@@ -86,11 +86,14 @@ loop-again c =
 returns : tie.Need-returns Inv-loop μ-loop
 returns c =
     let l = c .before .loop in
-    let a = c .before .before .before .args in
-    omega (
-      arith,
-      length-end (a .letters .now) (l .before) (l .i) (a .to) (omega arith),
-      length-list (a .letters .now) (a .from) (a .to) (a .count) (c .before .before .before .pre),
+    let start = c .before .before .before in
+    let a = start .args in (
+      omega (
+        arith,
+        length-end (a .letters .now) (l .before) (l .i) (a .to) (omega arith),
+        length-list (a .letters .now) (a .from) (a .to) (a .count) (start .pre),
+      ),
+      omega (arith, l .inv .5, l .inv .3, start .pre .few),
     )
 
 pub long-list-length-spec : {M : Type 1} → statement M

@@ -1,4 +1,5 @@
 -- `n_lists::n_list_length` meets its contract. Assumes nothing.
+use native.Mathlib.Omega.{arith}
 use borrow.Author.Needs.{needs}
 use Rattle.n_lists.proofs.NListLaws.{short-list}
 use Rattle.n_lists.proofs.n_list_length.Statement.{statement}
@@ -19,7 +20,10 @@ add-result c = search needs
 returns : tie.Need-returns
 returns c =
     let a = c .before .before .args in
-    short-list (a .letters .now) (a .from) (a .to) (a .count) (c .before .before .pre) (c .if1 .taken)
+    let fits = c .before .before .pre in (
+      short-list (a .letters .now) (a .from) (a .to) (a .count) fits (c .if1 .taken),
+      omega (arith, fits .few),
+    )
 
 long-list-length-requires : tie.Need-long-list-length-requires
 long-list-length-requires c κs = search needs

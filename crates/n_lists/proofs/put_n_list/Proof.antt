@@ -52,7 +52,7 @@ loop-holds c =
     let fits = c .before .before .pre .0 in (
       omega arith,
       omega arith,
-      fits .ordered,
+      fits .lies .ordered,
       omega (arith, count-places (a .letters .now) (a .from) (a .to) (a .count) fits),
       pasting-start _ (a .at + 1) (stepBytes (a .from) (nPlaces (a .letters .now) (a .from) (a .to)))
           (list-room (a .letters .now) (a .from) (a .to) (a .count) fits (a .out .now) (a .at) (c .before .before .pre .1)),
@@ -60,13 +60,13 @@ loop-holds c =
     )
 
 next-n-requires : tie.Need-next-n-requires Inv-loop μ-loop
-next-n-requires c κs = (c .before .loop .inv .2, c .before .before .before .before .pre .0 .inside)
+next-n-requires c κs = (c .before .loop .inv .2, c .before .before .before .before .pre .0 .lies .inside)
 
 sub-put-words : tie.Need-sub-put-words Inv-loop μ-loop
 sub-put-words c = omega (arith, first c .low)
 
 cast-put-words : tie.Need-cast-put-words Inv-loop μ-loop
-cast-put-words c = omega (arith, first c .low, first c .high, c .before .before .before .before .before .pre .0 .sized)
+cast-put-words c = omega (arith, first c .low, first c .high, c .before .before .before .before .before .pre .0 .lies .sized)
 
 put-words-requires : tie.Need-put-words-requires Inv-loop μ-loop
 put-words-requires c κs =
@@ -76,7 +76,7 @@ put-words-requires c κs =
 add-i : tie.Need-add-i Inv-loop μ-loop
 add-i c =
     let n = c .before .before .before .before in
-    omega (arith, first n .high, n .before .before .before .before .before .pre .0 .inside)
+    omega (arith, first n .high, n .before .before .before .before .before .pre .0 .lies .inside)
 
 add-k : tie.Need-add-k Inv-loop μ-loop
 add-k c = search needs

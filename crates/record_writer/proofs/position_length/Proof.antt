@@ -1,23 +1,18 @@
+-- `record_writer::position_length` meets its contract. Assumes nothing.
 use mathlib.Core.Path.{sym, _∙_}
 use native.Mathlib.Omega.{arith}
-use Rattle.record_writer.proofs.PositionLaws.{step-length, full-length}
 use borrow.Author.Needs.{needs}
+use Rattle.record_writer.proofs.PositionLaws.{step-length, full-length}
 use Rattle.record_writer.proofs.position_length.Statement.{statement}
 use Rattle.record_writer.proofs.position_length.Tie as tie
-use Rattle.record_writer.proofs.position_length.Reads as reads
-use Rattle.record_writer.proofs.position_length.Lts as lts
-use Rattle.record_writer.proofs.step_fits.Reads as step-fits-reads
 
--- src/lib.rt:62:8
 step-fits-requires : tie.Need-step-fits-requires
 step-fits-requires c κs = search needs
 
--- src/lib.rt:63:9
 returns : tie.Need-returns
 returns c =
     (step-length (c .before .before .args .previous) (c .before .before .args .position) (sym (c .before .step-fits .ensures) ∙ c .if1 .taken), omega arith)
 
--- src/lib.rt:59:1
 returns-2 : tie.Need-returns-2
 returns-2 c =
     (full-length (c .before .before .args .previous) (c .before .before .args .position) (sym (c .before .step-fits .ensures) ∙ c .if1 .left), omega arith)

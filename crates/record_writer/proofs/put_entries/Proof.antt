@@ -1,5 +1,6 @@
+-- `record_writer::put_entries` meets its contract. Assumes nothing.
 use mathlib.Core.Path.{_≡_, refl, sym, ap, _∙_}
-use Prim.Native.Nat.{ℕ, _+_, _-_, _≤_}
+use Prim.Native.Nat.{ℕ, _-_, _≤_}
 use native.Mathlib.Nat.{zero-add}
 use native.Mathlib.Omega.{arith}
 use lib.ListN.{length, getD, length-set}
@@ -10,8 +11,6 @@ use Rattle.base.proofs.PasteLaws.{pasted-nil, pasted-turn}
 use Rattle.letter_packing.proofs.PieceLaws.{build-part}
 use Rattle.record_writer.proofs.put_entries.Statement.{statement}
 use Rattle.record_writer.proofs.put_entries.Tie as tie
-use Rattle.record_writer.proofs.put_entries.Reads as reads
-use Rattle.record_writer.proofs.put_entries.Lts as lts
 
 abbrev Inv-loop : tie.InvT-loop
 Inv-loop list entries out₀ at k₀ out k =
@@ -21,34 +20,27 @@ Inv-loop list entries out₀ at k₀ out k =
 abbrev μ-loop : tie.MeasureT-loop
 μ-loop list entries out₀ at k₀ out k = entries - k
 
--- src/lib.rt:166:5
 loop-holds : tie.Need-loop-holds Inv-loop μ-loop
 unfolding build
 loop-holds c =
     let a = c .args in
     (omega arith, sym (pasted-nil (a .out .now) (a .at)), refl)
 
--- src/lib.rt:167:23
 shared-slice-read-out : tie.Need-shared-slice-read-out Inv-loop μ-loop
 shared-slice-read-out c = search needs
 
--- src/lib.rt:167:13
 add-out : tie.Need-add-out Inv-loop μ-loop
 add-out c = search needs
 
--- src/lib.rt:167:9
 slice-write-out : tie.Need-slice-write-out Inv-loop μ-loop
 slice-write-out c = search needs
 
--- src/lib.rt:168:9
 add-k : tie.Need-add-k Inv-loop μ-loop
 add-k c = search needs
 
--- src/lib.rt:166:5
 loop-less : tie.Need-loop-less Inv-loop μ-loop
 loop-less c = search needs
 
--- src/lib.rt:166:5
 loop-again : tie.Need-loop-again Inv-loop μ-loop
 loop-again c =
     let a = c .before .before .before .args in
@@ -58,15 +50,12 @@ loop-again c =
       simp length-set (l .inv .2),
     )
 
--- src/lib.rt:170:5
 add-result : tie.Need-add-result Inv-loop μ-loop
 add-result c = search needs
 
--- src/lib.rt:159:1
 same-length : tie.Need-same-length Inv-loop μ-loop
 same-length c = search needs
 
--- src/lib.rt:159:1
 returns : tie.Need-returns Inv-loop μ-loop
 returns c =
     let a = c .before .before .args in

@@ -1,20 +1,16 @@
+-- `record_writer::put_local` meets its contract. Assumes nothing.
 use mathlib.Core.Path.{ap₂, _∙_}
+use Prim.Native.Nat.{ℕ, _+_, _≤_}
 use native.Mathlib.Omega.{arith}
 use lib.ListN.{length, length-set}
-use Prim.Native.Nat.{ℕ, _+_, _≤_}
+use borrow.Author.Needs.{needs}
 use Rattle.base.specs.Packed.{packedLength}
 use Rattle.letter_packing.specs.Read.{codesIn}
 use Rattle.letter_packing.proofs.ReadLaws.{length-codesIn}
 use Rattle.record_writer.specs.Written.{alignedBytes}
 use Rattle.record_writer.proofs.PartLaws.{local-room, local-written}
-use borrow.Author.Needs.{needs}
 use Rattle.record_writer.proofs.put_local.Statement.{statement}
 use Rattle.record_writer.proofs.put_local.Tie as tie
-use Rattle.record_writer.proofs.put_local.Reads as reads
-use Rattle.record_writer.proofs.put_local.Lts as lts
-use Rattle.integers.proofs.size8.Reads as size8-reads
-use Rattle.letter_packing.proofs.put_ends.Reads as put-ends-reads
-use Rattle.record_writer.proofs.put_aligned.Reads as put-aligned-reads
 
 -- The ends lie within the read.
 clips : (c : tie.Start) → c .args .placement .left + c .args .placement .right
@@ -42,62 +38,51 @@ room c =
     local-room (a .placement) (a .previous) (a .list .now) (a .entries)
     (codesIn (a .letters .now) (a .from) (a .to)) (a .out .now) (a .at) (clips c) (c .pre .1)
 
--- src/lib.rt:195:9
 put-aligned-requires : tie.Need-put-aligned-requires
 put-aligned-requires c κs =
     let start = c .before .before .before .before in
     let pre = start .pre in
     ((omega arith, pre .0 .0 .position, pre .0 .1, pre .0 .2), omega (arith, room start))
 
--- src/lib.rt:196:5
 slice-write-out : tie.Need-slice-write-out
 slice-write-out c =
     let start = c .before .before .before .before .before .before .before in
     omega (arith, room start, c .before .before .put-aligned .ensures .1, c .before .out .given)
 
--- src/lib.rt:197:9
 add-out : tie.Need-add-out
 add-out c =
     let start = c .before .before .before .before .before .before .before in
     omega (arith, room start, c .before .before .put-aligned .ensures .1, c .before .out .given)
 
--- src/lib.rt:197:5
 slice-write-out-2 : tie.Need-slice-write-out-2
 slice-write-out-2 c =
     let start = c .before .before .before .before .before .before .before in
     simp length-set (omega (arith, room start, c .before .before .put-aligned .ensures .1, c .before .out .given))
 
--- src/lib.rt:198:9
 size8-requires : tie.Need-size8-requires
 size8-requires c κs = search needs
 
--- src/lib.rt:199:9
 size8-requires-2 : tie.Need-size8-requires-2
 size8-requires-2 c κs = search needs
 
--- src/lib.rt:200:51
 add-put-ends : tie.Need-add-put-ends
 add-put-ends c =
     let start = c .before .before .before .before .before .before .before .before .before .before in
     omega (arith, room start, c .before .before .before .before .before .put-aligned .ensures .1, c .before .before .before .before .out .given)
 
--- src/lib.rt:200:5
 put-ends-requires : tie.Need-put-ends-requires
 put-ends-requires c κs =
     let start = c .before .before .before .before .before .before .before .before .before .before in
     let left = c .before .before .size8 .ensures .0 in
     let right = c .before .size82 .ensures .0 in
-    let many = ap₂ (λ (l r : ℕ). packedLength 4 (l + r)) left right in
-    (
+    let many = ap₂ (λ (l r : ℕ). packedLength 4 (l + r)) left right in (
       (start .pre .0 .3, omega (arith, start .pre .0 .0 .clips)),
       simp length-set (omega (arith, room start, c .before .before .before .before .before .put-aligned .ensures .1, c .before .before .before .before .out .given)),
     )
 
--- src/lib.rt:174:1
 same-length : tie.Need-same-length
 same-length c = c .before .out2 .given ∙ simp length-set (c .before .before .before .before .before .before .before .out .given)
 
--- src/lib.rt:174:1
 returns : tie.Need-returns
 returns c =
     let start = c .before .before .before .before .before .before .before .before .before .before .before .before .before in

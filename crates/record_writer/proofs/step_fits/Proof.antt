@@ -1,14 +1,11 @@
+-- `record_writer::step_fits` meets its contract. Assumes nothing.
 use Rattle.record_writer.proofs.PositionLaws.{step-back, step-on}
 use Rattle.record_writer.proofs.step_fits.Statement.{statement}
 use Rattle.record_writer.proofs.step_fits.Tie as tie
-use Rattle.record_writer.proofs.step_fits.Reads as reads
-use Rattle.record_writer.proofs.step_fits.Lts as lts
 
--- src/lib.rt:53:9
 returns : tie.Need-returns
 returns c = step-back (c .before .args .previous) (c .before .args .position) (c .if1 .taken)
 
--- src/lib.rt:49:1
 returns-2 : tie.Need-returns-2
 returns-2 c = step-on (c .before .args .previous) (c .before .args .position) (c .if1 .left)
 
