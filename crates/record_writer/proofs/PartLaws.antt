@@ -27,42 +27,41 @@ stored-then out new at byte next rest room there written =
 
 -- ---- Flag byte, position and entries
 
-module _ (bit previous position : ℕ) (list : List ℕ) (n : ℕ) (fits : n ≤ length list)
-    (out : List ℕ) (at : ℕ)
-    (room : at + length (alignedBytes bit previous position list n) ≤ length out) where
+module _ (bit previous position : ℕ) (list : List ℕ) (n : ℕ) (out : List ℕ) (at : ℕ)
+    (room : at + 1 + length (positionBytes previous position) + n ≤ length out) where
   abbrev place : List ℕ
   place = positionBytes previous position
 
-  pub aligned-room : at + 1 + length place + n ≤ length out
-  aligned-room = omega (arith, length-aligned bit previous position list n fits)
-
-  pub aligned-written : (two three : List ℕ) (next last : ℕ)
+  pub aligned-written : (two three : List ℕ) (next : ℕ)
       → two ≡ pasted (set out at (n * 8 + bit)) (at + 1) place → next ≡ at + 1 + length place
-      → three ≡ pasted two next (take n list) → last ≡ next + n
-      → (three ≡ pasted out at (alignedBytes bit previous position list n))
-      × (last ≡ at + length (alignedBytes bit previous position list n))
+      → three ≡ pasted two next (take n list)
+      → three ≡ pasted out at (alignedBytes bit previous position list n)
   unfolding alignedBytes
-  aligned-written two three next last e₁ there e₂ after = (
-    stored-then out three at (n * 8 + bit) (at + 1) _ (omega (arith, aligned-room)) refl
-        (pasted-then (set out at (n * 8 + bit)) two three (at + 1) next place (take n list)
-        (simp length-set (omega (arith, aligned-room))) there e₁ e₂),
-    omega (arith, length-aligned bit previous position list n fits),
-  )
+  aligned-written two three next e₁ there e₂ =
+      stored-then out three at (n * 8 + bit) (at + 1) _ (omega arith) refl
+      (pasted-then (set out at (n * 8 + bit)) two three (at + 1) next place (take n list)
+      (simp length-set (omega arith)) there e₁ e₂)
 
 -- ---- The ends after them
 
-module _ (placement : Placement) (previous : ℕ) (list : List ℕ) (n : ℕ) (codes out : List ℕ) (at : ℕ)
-    (clips : placement .left + placement .right ≤ length codes)
+module _ (placement : Placement) (previous : ℕ) (list : List ℕ) (n : ℕ) (fits : n ≤ length list)
+    (codes out : List ℕ) (at : ℕ) (clips : placement .left + placement .right ≤ length codes)
     (room : at + length (localBytes placement previous list n codes) ≤ length out) where
   abbrev front : List ℕ
   front = alignedBytes 0 previous (placement .position) list n
 
+  size-front : length front ≡ 1 + length (positionBytes previous (placement .position)) + n
+  size-front = length-aligned 0 previous (placement .position) list n fits
+
   pub local-room :
-      at + length front + 2 + packedLength 4 (placement .left + placement .right) ≤ length out
-  local-room = omega (arith, length-local placement previous list n codes clips)
+      at + 1 + length (positionBytes previous (placement .position)) + n + 2
+      + packedLength 4 (placement .left + placement .right)
+      ≤ length out
+  local-room = omega (arith, length-local placement previous list n codes clips, size-front)
 
   pub local-written : (one new : List ℕ) (next left right last : ℕ) → one ≡ pasted out at front
-      → next ≡ at + length front → left ≡ placement .left → right ≡ placement .right
+      → next ≡ at + 1 + length (positionBytes previous (placement .position)) + n
+      → left ≡ placement .left → right ≡ placement .right
       → new
       ≡ pasted (set (set one next (placement .left)) (next + 1) (placement .right)) (next + 2)
       (packedBytes 4 4 (padded 4 (endCodes left right codes)))
@@ -72,7 +71,7 @@ module _ (placement : Placement) (previous : ℕ) (list : List ℕ) (n : ℕ) (c
   unfolding localBytes
   local-written one new next left right last e₁ there is₁ is₂ e₂ after =
       let same : length one ≡ length out =
-      ap length e₁ ∙ length-pasted out at front (omega (arith, local-room)) in
+      ap length e₁ ∙ length-pasted out at front (omega (arith, local-room, size-front)) in
       let size : length (set one next (placement .left)) ≡ length one = length-set one next _ in
       let ends : List ℕ =
       packedBytes 4 4 (padded 4 (endCodes (placement .left) (placement .right) codes)) in
@@ -81,13 +80,13 @@ module _ (placement : Placement) (previous : ℕ) (list : List ℕ) (n : ℕ) (c
       let count : packedLength 4 (left + right) ≡ packedLength 4 (placement .left + placement .right) =
       ap₂ (λ (l r : ℕ). packedLength 4 (l + r)) is₁ is₂ in (
         pasted-then out one new at next front (placement .left ∷ placement .right ∷ ends)
-            (omega (arith, local-room)) there e₁
+            (omega (arith, local-room, size-front)) (omega (arith, size-front)) e₁
             (stored-then one new next (placement .left) (next + 1) (placement .right ∷ ends)
             (omega (arith, local-room)) refl
             (stored-then (set one next (placement .left)) new (next + 1) (placement .right) (next + 2)
             ends (omega (arith, local-room)) (omega arith)
             (e₂ ∙ ap (pasted _ (next + 2)) packed))),
-        omega (arith, length-local placement previous list n codes clips),
+        omega (arith, length-local placement previous list n codes clips, size-front),
       )
 
 -- ---- Raw letters

@@ -1,7 +1,6 @@
 // One record of the DNA section, written (01, Records): its length and its bytes, by its kind and
 // placement, the position before, its entry bytes and the letters of its read. The contracts cite
-// specs/Written.antt; each `requires` says that the record is one that can be written, and that there
-// is room.
+// specs/Written.antt; each `requires` says that the record can be written, and that there is room.
 use dna::Placement;
 use dna::Record;
 use integers::put_u16;
@@ -246,11 +245,11 @@ fn put_aligned(
 ) -> usize
     requires { ⌜ (bit < 8) × (position < 2 ^ 32) × (entries ≤ maxEntries)
         × (entries ≤ length (now list)) ⌝ }
-    requires { ⌜ at + length (alignedBytes bit previous position (now list) entries)
+    requires { ⌜ at + 1 + length (positionBytes previous position) + entries
         ≤ length (now out) ⌝ }
     ensures { λ r. ⌜ (now (out .exit) ≡ pasted (now (out .entry)) at
         (alignedBytes bit previous position (now (list .entry)) entries))
-        × (r ≡ at + length (alignedBytes bit previous position (now (list .entry)) entries)) ⌝ }
+        × (r ≡ at + 1 + length (positionBytes previous position) + entries) ⌝ }
 {
     out[at] = (entries as u8) * 8 + bit;
     let next = put_position(previous, position, out, at + 1);

@@ -1,4 +1,4 @@
--- `record_writer::put_fields` meets its contract. Assumes nothing.
+-- `record_writer::put_fields` meets its contract: by the kind. Assumes nothing.
 use mathlib.Core.Path.{_≡_, sym, ap, _∙_, subst}
 use Prim.Native.Nat.{ℕ, _+_, _-_, _≤_}
 use native.Mathlib.Omega.{arith}
@@ -6,19 +6,60 @@ use mathlib.Core.List.{List}
 use lib.ListN.{length}
 use borrow.Author.Needs.{needs}
 use Rattle.base.specs.Paste.{pasted}
+use Rattle.dna.specs.Record.{Entry}
 use Rattle.dna.specs.RecordAt.{entriesAt}
+use Rattle.dna.specs.declared.Placement.{Placement}
 use Rattle.dna.specs.declared.Record.{Record}
+use Rattle.dna.specs.declared.Record.the-variants as kinds
 use Rattle.letter_packing.specs.Read.{codesIn}
-use Rattle.record_writer.specs.Written.{fieldsWritten, KindFits}
-use Rattle.record_writer.proofs.FieldLaws.{perfect-fields, global-fields, local-fields, raw-fields, raw4-fields}
+use Rattle.record_writer.specs.Written.{fieldsWritten, positionBytes, alignedBytes, localBytes}
+use Rattle.record_writer.specs.Written.{rawBytes, raw4Bytes, KindFits}
+use Rattle.record_writer.proofs.FieldLaws.{perfect-fields, global-fields, local-fields}
+use Rattle.record_writer.proofs.FieldLaws.{raw-fields, raw4-fields, length-aligned}
 use Rattle.record_writer.proofs.put_fields.Statement.{statement}
 use Rattle.record_writer.proofs.put_fields.Tie as tie
 
+-- The read's codes and the entries that are written.
+abbrev codes : (c : tie.Start) → List ℕ
+codes c = codesIn (c .args .letters .now) (c .args .from) (c .args .to)
+
+abbrev entries : (c : tie.Start) → List Entry
+entries c = entriesAt (c .args .list .now) 0 (c .args .entries)
+
 -- The bytes of the fields, where the record is `r`.
 abbrev fields : (c : tie.Start) (r : Record) → List ℕ
-fields c r =
-    fieldsWritten (c .args .previous) r (entriesAt (c .args .list .now) 0 (c .args .entries))
-    (codesIn (c .args .letters .now) (c .args .from) (c .args .to))
+fields c r = fieldsWritten (c .args .previous) r (entries c) (codes c)
+
+-- Those of each kind.
+perfect : (c : tie.Start) (p : Placement) → fields c (kinds.Perfect p)
+    ≡ positionBytes (c .args .previous) (p .position)
+perfect c p = perfect-fields (c .args .previous) p (entries c) (codes c)
+
+global : (c : tie.Start) (p : Placement) → fields c (kinds.Global p)
+    ≡ alignedBytes 4 (c .args .previous) (p .position) (c .args .list .now) (c .args .entries)
+global c p =
+    global-fields (c .args .previous) p (c .args .list .now) (c .args .entries) (c .pre .0 .1)
+    (codes c)
+
+local : (c : tie.Start) (p : Placement) → fields c (kinds.Local p)
+    ≡ localBytes p (c .args .previous) (c .args .list .now) (c .args .entries) (codes c)
+local c p =
+    local-fields (c .args .previous) p (c .args .list .now) (c .args .entries) (c .pre .0 .1)
+    (codes c)
+
+raw : (c : tie.Start) → fields c kinds.Raw ≡ rawBytes (codes c)
+raw c = raw-fields (c .args .previous) (entries c) (codes c)
+
+raw4 : (c : tie.Start) → fields c kinds.Raw4 ≡ raw4Bytes (codes c)
+raw4 c = raw4-fields (c .args .previous) (entries c) (codes c)
+
+-- How many bytes a global record takes.
+many : (c : tie.Start) (p : Placement)
+    → length (alignedBytes 4 (c .args .previous) (p .position) (c .args .list .now) (c .args .entries))
+    ≡ 1 + length (positionBytes (c .args .previous) (p .position)) + c .args .entries
+many c p =
+    length-aligned 4 (c .args .previous) (p .position) (c .args .list .now) (c .args .entries)
+    (c .pre .0 .1)
 
 -- What is known of the record, by its kind.
 kind : (c : tie.Start) (r : Record) → c .args .«record» ≡ r
@@ -51,21 +92,21 @@ enum-known-record c = search needs
 
 put-position-requires : tie.Need-put-position-requires
 put-position-requires c κs =
-    let r = c .before .before .«record» .given in
-    let start = c .before .before .before .before .before .before .before in
-    let a = start .args in
-    (kind start _ (r .1) .position, room start _ _ (r .1) (perfect-fields (a .previous) (r .0 .0) (entriesAt (a .list .now) 0 (a .entries)) (codesIn (a .letters .now) (a .from) (a .to))))
+    let p = c .before .before in
+    let start = p .before .before .before .before .before in
+    let is = p .«record» .given in
+    (kind start _ (is .1) .position, room start _ _ (is .1) (perfect start (is .0 .0)))
 
 enum-known-record-2 : tie.Need-enum-known-record-2
 enum-known-record-2 c = search needs
 
 put-aligned-requires : tie.Need-put-aligned-requires
 put-aligned-requires c κs =
-    let r = c .before .before .record2 .given in
-    let start = c .before .before .before .before .before .before .before in
-    let a = start .args in (
-      (omega arith, kind start _ (r .1) .position, start .pre .0 .0 .few, start .pre .0 .1),
-      room start _ _ (r .1) (global-fields (a .previous) (r .0 .0) (a .list .now) (a .entries) (start .pre .0 .1) (codesIn (a .letters .now) (a .from) (a .to))),
+    let p = c .before .before in
+    let start = p .before .before .before .before .before in
+    let is = p .record2 .given in (
+      (omega arith, kind start _ (is .1) .position, start .pre .0 .0 .few, start .pre .0 .1),
+      omega (arith, room start _ _ (is .1) (global start (is .0 .0)), many start (is .0 .0)),
     )
 
 enum-known-record-3 : tie.Need-enum-known-record-3
@@ -73,11 +114,11 @@ enum-known-record-3 c = search needs
 
 put-local-requires : tie.Need-put-local-requires
 put-local-requires c κs =
-    let r = c .before .before .record3 .given in
-    let start = c .before .before .before .before .before .before .before in
-    let a = start .args in (
-      (kind start _ (r .1), start .pre .0 .0 .few, start .pre .0 .1, start .pre .0 .0 .lies),
-      room start _ _ (r .1) (local-fields (a .previous) (r .0 .0) (a .list .now) (a .entries) (start .pre .0 .1) (codesIn (a .letters .now) (a .from) (a .to))),
+    let p = c .before .before in
+    let start = p .before .before .before .before .before in
+    let is = p .record3 .given in (
+      (kind start _ (is .1), start .pre .0 .0 .few, start .pre .0 .1, start .pre .0 .0 .lies),
+      room start _ _ (is .1) (local start (is .0 .0)),
     )
 
 enum-told : tie.Need-enum-told
@@ -85,70 +126,72 @@ enum-told c = search needs
 
 put-raw-requires : tie.Need-put-raw-requires
 put-raw-requires c κs =
-    let start = c .before .before .before .before .before .before in
-    let a = start .args in (
-      start .pre .0 .0 .lies,
-      room start _ _ (c .before .enum-told .given .1) (raw-fields (a .previous) (entriesAt (a .list .now) 0 (a .entries)) (codesIn (a .letters .now) (a .from) (a .to))),
-    )
+    let p = c .before in
+    let start = p .before .before .before .before .before in
+    (start .pre .0 .0 .lies, room start _ _ (p .enum-told .given .1) (raw start))
 
 enum-told-2 : tie.Need-enum-told-2
 enum-told-2 c = search needs
 
 put-raw4-requires : tie.Need-put-raw4-requires
 put-raw4-requires c κs =
-    let start = c .before .before .before .before .before .before in
-    let a = start .args in (
-      start .pre .0 .0 .lies,
-      room start _ _ (c .before .enum-told2 .given .1) (raw4-fields (a .previous) (entriesAt (a .list .now) 0 (a .entries)) (codesIn (a .letters .now) (a .from) (a .to))),
-    )
+    let p = c .before in
+    let start = p .before .before .before .before .before in
+    (start .pre .0 .0 .lies, room start _ _ (p .enum-told2 .given .1) (raw4 start))
 
 same-length : tie.Need-same-length
 same-length c = search needs
 
 returns : tie.Need-returns
 returns c =
-    let r = c .before .before .before .before .before .«record» .given in
-    let start = c .before .before .before .before .before .before .before .before .before .before in
-    let a = start .args in
-    written start _ _ (r .1) (perfect-fields (a .previous) (r .0 .0) (entriesAt (a .list .now) 0 (a .entries)) (codesIn (a .letters .now) (a .from) (a .to))) _ _ (c .before .before .put-position .ensures)
+    let put = c .before .before in
+    let p = put .before .before .before in
+    let start = p .before .before .before .before .before in
+    let is = p .«record» .given in
+    written start _ _ (is .1) (perfect start (is .0 .0)) _ _ (put .put-position .ensures)
 
 same-length-2 : tie.Need-same-length-2
 same-length-2 c = search needs
 
 returns-2 : tie.Need-returns-2
 returns-2 c =
-    let r = c .before .before .before .before .before .record2 .given in
-    let start = c .before .before .before .before .before .before .before .before .before .before in
-    let a = start .args in
-    written start _ _ (r .1) (global-fields (a .previous) (r .0 .0) (a .list .now) (a .entries) (start .pre .0 .1) (codesIn (a .letters .now) (a .from) (a .to))) _ _ (c .before .before .put-aligned .ensures)
+    let put = c .before .before in
+    let p = put .before .before .before in
+    let start = p .before .before .before .before .before in
+    let is = p .record2 .given in
+    written start _ _ (is .1) (global start (is .0 .0)) _ _
+    (put .put-aligned .ensures .0, omega (arith, put .put-aligned .ensures .1, many start (is .0 .0)))
 
 same-length-3 : tie.Need-same-length-3
 same-length-3 c = search needs
 
 returns-3 : tie.Need-returns-3
 returns-3 c =
-    let r = c .before .before .before .before .before .record3 .given in
-    let start = c .before .before .before .before .before .before .before .before .before .before in
-    let a = start .args in
-    written start _ _ (r .1) (local-fields (a .previous) (r .0 .0) (a .list .now) (a .entries) (start .pre .0 .1) (codesIn (a .letters .now) (a .from) (a .to))) _ _ (c .before .before .put-local .ensures)
+    let put = c .before .before in
+    let p = put .before .before .before in
+    let start = p .before .before .before .before .before in
+    let is = p .record3 .given in
+    written start _ _ (is .1) (local start (is .0 .0)) _ _ (put .put-local .ensures)
 
 same-length-4 : tie.Need-same-length-4
 same-length-4 c = search needs
 
 returns-4 : tie.Need-returns-4
 returns-4 c =
-    let start = c .before .before .before .before .before .before .before .before .before in
-    let a = start .args in
-    written start _ _ (c .before .before .before .before .enum-told .given .1) (raw-fields (a .previous) (entriesAt (a .list .now) 0 (a .entries)) (codesIn (a .letters .now) (a .from) (a .to))) _ _ (c .before .before .put-raw .ensures)
+    let put = c .before .before in
+    let p = put .before .before in
+    let start = p .before .before .before .before .before in
+    written start _ _ (p .enum-told .given .1) (raw start) _ _ (put .put-raw .ensures)
 
 same-length-5 : tie.Need-same-length-5
 same-length-5 c = search needs
 
 returns-5 : tie.Need-returns-5
 returns-5 c =
-    let start = c .before .before .before .before .before .before .before .before .before in
-    let a = start .args in
-    written start _ _ (c .before .before .before .before .enum-told2 .given .1) (raw4-fields (a .previous) (entriesAt (a .list .now) 0 (a .entries)) (codesIn (a .letters .now) (a .from) (a .to))) _ _ (c .before .before .put-raw4 .ensures)
+    let put = c .before .before in
+    let p = put .before .before in
+    let start = p .before .before .before .before .before in
+    written start _ _ (p .enum-told2 .given .1) (raw4 start) _ _ (put .put-raw4 .ensures)
 
 pub put-fields-spec : {M : Type 1} → statement M
 put-fields-spec =

@@ -7,7 +7,7 @@ use borrow.Author.Needs.{needs}
 use Rattle.base.specs.Packed.{packedLength}
 use Rattle.letter_packing.specs.Read.{codesIn}
 use Rattle.letter_packing.proofs.ReadLaws.{length-codesIn}
-use Rattle.record_writer.specs.Written.{alignedBytes}
+use Rattle.record_writer.specs.Written.{positionBytes}
 use Rattle.record_writer.proofs.PartLaws.{local-room, local-written}
 use Rattle.record_writer.proofs.put_local.Statement.{statement}
 use Rattle.record_writer.proofs.put_local.Tie as tie
@@ -26,16 +26,15 @@ clips c =
 
 -- There is room for each part.
 room : (c : tie.Start)
-    → c .args .at
-    + length
-    (alignedBytes 0 (c .args .previous) (c .args .placement .position) (c .args .list .now)
-    (c .args .entries))
+    → c .args .at + 1
+    + length (positionBytes (c .args .previous) (c .args .placement .position))
+    + c .args .entries
     + 2
     + packedLength 4 (c .args .placement .left + c .args .placement .right)
     ≤ length (c .args .out .now)
 room c =
     let a = c .args in
-    local-room (a .placement) (a .previous) (a .list .now) (a .entries)
+    local-room (a .placement) (a .previous) (a .list .now) (a .entries) (c .pre .0 .2)
     (codesIn (a .letters .now) (a .from) (a .to)) (a .out .now) (a .at) (clips c) (c .pre .1)
 
 put-aligned-requires : tie.Need-put-aligned-requires
@@ -87,7 +86,7 @@ returns : tie.Need-returns
 returns c =
     let start = c .before .before .before .before .before .before .before .before .before .before .before .before .before in
     let a = start .args in
-    local-written (a .placement) (a .previous) (a .list .now) (a .entries) (codesIn (a .letters .now) (a .from) (a .to)) (a .out .now) (a .at)
+    local-written (a .placement) (a .previous) (a .list .now) (a .entries) (start .pre .0 .2) (codesIn (a .letters .now) (a .from) (a .to)) (a .out .now) (a .at)
     (clips start) (start .pre .1) _ _ (c .before .before .before .before .before .before .before .before .put-aligned .result) (c .before .before .before .before .before .size8 .result) (c .before .before .before .before .size82 .result) _
     (c .before .before .before .before .before .before .before .before .put-aligned .ensures .0) (c .before .before .before .before .before .before .before .before .put-aligned .ensures .1) (c .before .before .before .before .before .size8 .ensures .0) (c .before .before .before .before .size82 .ensures .0) (c .before .before .put-ends .ensures .0) (c .before .before .put-ends .ensures .1)
 
