@@ -1,12 +1,18 @@
 // Runs the cases of the second implementation (rust/second/CORPUS.md) through the public calls and
 // prints what they give; the file stdout holds what the second implementation gives.
-mod files;
+mod case_files;
 mod kinds;
 mod lines;
+mod outcomes;
 mod read_lengths;
+mod reading;
 mod sections;
 
 fn main() {
-    files::run_file(b"sections.bin");
-    files::run_file(b"lengths.bin");
+    case_files::run_file(b"sections.bin");
+    case_files::run_file(b"lengths.bin");
+    case_files::run_file(b"decode.bin");
+    case_files::run_file(b"validate_block.bin");
+    case_files::run_file(b"validate.bin");
+    case_files::run_file(b"decode_large.bin");
 }

@@ -1,11 +1,11 @@
--- `corpus::files::run_case` meets its contract: a case that is found lies in the bytes. Assumes
+-- `corpus::case_files::run_case` meets its contract: a case that is found lies in the bytes. Assumes
 -- nothing.
 use mathlib.Core.Path.{sym, _∙_}
 use native.Mathlib.Omega.{arith}
 use Rattle.cases.proofs.CaseLaws.{found-length}
 use borrow.Author.Needs.{needs}
-use Rattle.corpus.proofs.files.run_case.Statement.{statement}
-use Rattle.corpus.proofs.files.run_case.Tie as tie
+use Rattle.corpus.proofs.case_files.run_case.Statement.{statement}
+use Rattle.corpus.proofs.case_files.run_case.Tie as tie
 
 read-case-requires : tie.Need-read-case-requires
 read-case-requires c κs = search needs

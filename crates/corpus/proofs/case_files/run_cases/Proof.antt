@@ -1,12 +1,12 @@
--- `corpus::files::run_cases` is safe and ends. The loop's invariant: the next case starts in the
+-- `corpus::case_files::run_cases` is safe and ends. The loop's invariant: the next case starts in the
 -- file or at its end. The measure is how many cases are left. Assumes nothing.
 use mathlib.Core.Path.{sym, _∙_}
 use Prim.Native.Nat.{_-_, _≤_}
 use borrow.Author.Needs.{needs}
 use lib.ListN.{length}
 use Rattle.cases.proofs.CaseLaws.{counted-length}
-use Rattle.corpus.proofs.files.run_cases.Statement.{statement}
-use Rattle.corpus.proofs.files.run_cases.Tie as tie
+use Rattle.corpus.proofs.case_files.run_cases.Statement.{statement}
+use Rattle.corpus.proofs.case_files.run_cases.Tie as tie
 
 abbrev Inv-loop : tie.InvT-loop
 Inv-loop file count at₀ index₀ at index = at ≤ length file
