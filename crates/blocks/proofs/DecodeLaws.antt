@@ -235,27 +235,18 @@ decode-refused bases reference input number read letters ends e =
 
 module _ (bases : ℕ) (reference input : List ℕ) (divided : BlockDivision) (bytes : ℕ)
     (letters ends : List ℕ) (answer : blockAnswer bases reference input ≡ found divided bytes) where
-  -- 22: there is no room for the letters.
-  pub decode-no-letters : length letters < length (flatten (blockReads reference bases divided))
+  -- 22: there is no room for the letters, or none for the ends.
+  pub decode-no-room : (letterCount readCount′ : ℕ)
+      → length (flatten (blockReads reference bases divided)) ≡ letterCount
+      → length (divided .lengths) ≡ readCount′
+      → ltb (length letters) letterCount || ltb (length ends) readCount′ ≡ true
       → Decodes bases reference input (outcomes.Refused 22 0) letters letters ends ends
   unfolding decodeAnswer capacityTooSmall checked
-  decode-no-letters few =
+  decode-no-room letterCount readCount′ many reads few =
+      let wrong : capacityTooSmall reference bases (length letters) (length ends) divided ≡ true =
+      ap₂ (λ (m n : ℕ). ltb (length letters) m || ltb (length ends) n) many reads ∙ few in
       refused-all bases reference input letters ends 22 0
-      (andThen-found _ answer
-      (cond-yes _
-      (ap (λ (t : Bool). t || ltb (length ends) (length (divided .lengths))) (lt-ltb _ _ few)) refl))
-
-  -- 22: there is none for the ends.
-  pub decode-no-ends : length ends < length (divided .lengths)
-      → Decodes bases reference input (outcomes.Refused 22 0) letters letters ends ends
-  unfolding decodeAnswer capacityTooSmall checked
-  decode-no-ends few =
-      refused-all bases reference input letters ends 22 0
-      (andThen-found _ answer
-      (cond-yes _
-      (or-right (ltb (length letters) (length (flatten (blockReads reference bases divided)))) _
-      (lt-ltb _ _ few))
-      refl))
+      (andThen-found _ answer (cond-yes _ wrong refl))
 
   module _ (letters-fit : length (flatten (blockReads reference bases divided)) ≤ length letters)
       (ends-fit : length (divided .lengths) ≤ length ends) where

@@ -1,6 +1,7 @@
 // Reading a block (01, Numbers of refusal: smallest step first): judged with 1 to 21, and decoded
 // into lent buffers, which 22 is decided for before the first byte is written. The contracts of the
 // public calls cite specs/BlockAnswer.antt of format; neither has a `requires`.
+use dna::Counts;
 use dna::refusals::CAPACITY_TOO_SMALL;
 use dna::refusals::DNA_TRAILING;
 use dna::refusals::N_SECTION_WRONG;
@@ -25,9 +26,10 @@ use records::letters::pair_table;
 use reference::reference_size_wrong;
 use reference::word_table;
 ghost use mathlib.Core.Path.{_≡_};
-ghost use mathlib.Core.Bool.{true, false};
+ghost use mathlib.Core.Bool.{true, false, _||_};
 ghost use Prim.Native.Nat.{_≤_};
 ghost use lib.ListN.{length};
+ghost use lib.Dec.{ltb};
 ghost use Rattle.dna.specs.Reference.{ReferenceFits};
 ghost use Rattle.format.specs.Header.{headerOf, readCount};
 ghost use Rattle.format.specs.Lengths.{nSectionWrong};
@@ -77,13 +79,20 @@ pub fn decode(
     let BlockOutcome::Accepted(bytes, counts) = judgement else {
         return judgement;
     };
-    if (letters.len() as u64) < counts.letters {
-        return BlockOutcome::Refused(CAPACITY_TOO_SMALL, 0);
-    }
-    if (ends.len() as u64) < counts.reads {
+    if room_too_small(letters.len(), ends.len(), counts) {
         return BlockOutcome::Refused(CAPACITY_TOO_SMALL, 0);
     }
     write_block(bases, reference, input, bytes, letters, ends)
+}
+
+// 22: the letters or the ends do not fit.
+fn room_too_small(letters: usize, ends: usize, counts: Counts) -> bool
+    ensures { λ r. ⌜ r ≡ ltb letters (counts .letters) || ltb ends (counts .reads) ⌝ }
+{
+    if (letters as u64) < counts.letters {
+        return true;
+    }
+    (ends as u64) < counts.reads
 }
 
 // Writes the reads of a block that was judged, of so many bytes, into buffers with room for them.

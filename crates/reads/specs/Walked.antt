@@ -160,19 +160,24 @@ lettersIn reference dna read =
     recordLetters reference (contextIn 0 (read .length) (read .«record»))
     (storedIn dna (read .length) (read .«record») (read .layout))
 
--- Its counts.
-unfoldable pub countsIn : (differences : Bool) (reference dna : List ℕ) (read : Read) → Counts
-countsIn differences reference dna read =
+-- Its counts, with so many differences.
+abbrev pub countsAs : (read : Read) (differences : ℕ) → Counts
+countsAs read differences =
     record {
       reads = 1;
       letters = read .length;
       entries = read .layout .«entry_count»;
-      differences =
-          cond differences
-          (recordCounts reference (contextIn 0 (read .length) (read .«record»))
-          (storedIn dna (read .length) (read .«record») (read .layout)) .differences)
-          0;
+      differences = differences;
     }
+
+-- Its counts, with its differences only where they are asked for.
+unfoldable pub countsIn : (differences : Bool) (reference dna : List ℕ) (read : Read) → Counts
+countsIn differences reference dna read =
+    countsAs read
+    (cond differences
+    (recordCounts reference (contextIn 0 (read .length) (read .«record»))
+    (storedIn dna (read .length) (read .«record») (read .layout)) .differences)
+    0)
 
 -- Room for a read from letter `from` on, and for its end at `index`.
 pub record RoomAt (letterRoom endRoom from index size : ℕ) : Type 0 where

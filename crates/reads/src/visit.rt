@@ -15,6 +15,7 @@ ghost use Rattle.reads.specs.Walked.{
   TablesMade,
   RoomAt,
   lettersIn,
+  countsAs,
   countsIn,
 };
 
@@ -103,12 +104,7 @@ fn write_read(
         from,
     );
     ends[index] = (from + size) as u32;
-    Counts {
-        reads: 1,
-        letters: size as u64,
-        entries: layout.entry_count as u64,
-        differences: changed,
-    }
+    counts_of(read, changed)
 }
 
 // Counts a read; its differences where `count` is set.
@@ -117,26 +113,26 @@ fn count_read(reference: &[u8], dna: &[u8], read: Read, count: bool) -> Counts
         (read .layout) ⌝ }
     ensures { λ r. ⌜ r ≡ countsIn count (now (reference .entry)) (now (dna .entry)) read ⌝ }
 {
+    if count {
+        let record = read.record;
+        let layout = read.layout;
+        return counts_of(
+            read,
+            differences(dna, reference, record, layout, read.length),
+        );
+    }
+    counts_of(read, 0)
+}
+
+// The counts of a read with so many differences.
+fn counts_of(read: Read, differences: u64) -> Counts
+    ensures { λ r. ⌜ r ≡ countsAs read differences ⌝ }
+{
     let layout = read.layout;
     Counts {
         reads: 1,
         letters: read.length as u64,
         entries: layout.entry_count as u64,
-        differences: differences_or_0(reference, dna, read, count),
+        differences: differences,
     }
-}
-
-// The differences of a read, or 0 where they are not asked for.
-fn differences_or_0(reference: &[u8], dna: &[u8], read: Read, count: bool) -> u64
-    requires { ⌜ Printable (now dna) (now reference) (read .length) (read .«record»)
-        (read .layout) ⌝ }
-    ensures { λ r. ⌜ r ≡ countsIn count (now (reference .entry)) (now (dna .entry)) read
-        .differences ⌝ }
-{
-    if count {
-        let record = read.record;
-        let layout = read.layout;
-        return differences(dna, reference, record, layout, read.length);
-    }
-    0
 }

@@ -4,12 +4,14 @@ use Prim.Native.Nat.{_≤_, _<_}
 use native.Mathlib.Omega.{arith}
 use mathlib.Core.List.{flatten}
 use lib.ListN.{length}
+use lib.Dec.{ltb}
+use borrow.Author.Tests.{ltb-false}
 use Rattle.base.specs.Lists.{AllBytes}
+use Rattle.base.proofs.Tests.{or-neither}
 use Rattle.format.specs.Joined.{blockReads}
 use Rattle.format.specs.Answered.{outcomeOfBlock}
 use Rattle.blocks.proofs.DecodeLaws.{Judged, block-judged, block-parts, counts-are}
-use Rattle.blocks.proofs.DecodeLaws.{letters-count, decode-refused, decode-no-letters}
-use Rattle.blocks.proofs.DecodeLaws.{decode-no-ends}
+use Rattle.blocks.proofs.DecodeLaws.{letters-count, decode-refused, decode-no-room}
 use borrow.Author.Needs.{needs}
 use Rattle.blocks.proofs.decode.Statement.{statement}
 use Rattle.blocks.proofs.decode.Tie as tie
@@ -68,36 +70,34 @@ returns c =
     (a .ends .now) (sym is ∙ judged′ .judge .ensures) in
     (ap outcomeOfBlock is ∙ done .outcome, done .letters-are, done .ends-are)
 
+room-too-small-requires : tie.Need-room-too-small-requires
+room-too-small-requires c κs = search needs
+
 returns-2 : tie.Need-returns-2
 returns-2 c =
     let told = c .before .before in
     let a = start told .args in
     let done =
-    decode-no-letters (a .bases) (a .reference .now) (a .input .now) (accepted told .divided) _
-    (a .letters .now) (a .ends .now) (accepted told .answer)
-    (omega (arith, c .if1 .taken, sizes told .0)) in
-    (done .outcome, done .letters-are, done .ends-are)
-
-returns-3 : tie.Need-returns-3
-returns-3 c =
-    let told = c .before .before .before .before in
-    let a = start told .args in
-    let done =
-    decode-no-ends (a .bases) (a .reference .now) (a .input .now) (accepted told .divided) _
-    (a .letters .now) (a .ends .now) (accepted told .answer)
-    (omega (arith, c .if2 .taken, sizes told .1)) in
+    decode-no-room (a .bases) (a .reference .now) (a .input .now) (accepted told .divided) _
+    (a .letters .now) (a .ends .now) (accepted told .answer) _ _ (sizes told .0) (sizes told .1)
+    (sym (c .before .room-too-small .ensures) ∙ c .if1 .taken) in
     (done .outcome, done .letters-are, done .ends-are)
 
 write-block-requires : tie.Need-write-block-requires
 write-block-requires c κs =
-    let second = c .before .before in
-    let first = second .before .before in
-    let told = first .before .before in
+    let judged′ = c .before .before in
+    let told = judged′ .before .before in
+    let counts = told .before .judgement .given .0 .1 .0 in
+    let a = start told .args in
+    let room =
+    or-neither (ltb (length (a .letters .now)) (counts .letters))
+    (ltb (length (a .ends .now)) (counts .reads))
+    (sym (judged′ .before .room-too-small .ensures) ∙ judged′ .if1 .left) in
     record {
       divided = accepted told .divided;
       answer = accepted told .answer;
-      letters-fit = omega (arith, first .if1 .left, sizes told .0);
-      ends-fit = omega (arith, second .if2 .left, sizes told .1);
+      letters-fit = omega (arith, ltb-false (length (a .letters .now)) (counts .letters) (room .0), sizes told .0);
+      ends-fit = omega (arith, ltb-false (length (a .ends .now)) (counts .reads) (room .1), sizes told .1);
     }
 
 same-length : tie.Need-same-length
@@ -106,8 +106,8 @@ same-length c = search needs
 same-length-2 : tie.Need-same-length-2
 same-length-2 c = search needs
 
-returns-4 : tie.Need-returns-4
-returns-4 c =
+returns-3 : tie.Need-returns-3
+returns-3 c =
     let done = c .before .before .before .before .write-block .ensures in
     (done .outcome, done .letters-are, done .ends-are)
 
@@ -119,9 +119,9 @@ decode-spec =
     enum-known-judgement
     enum-told
     returns
+    room-too-small-requires
     returns-2
-    returns-3
     write-block-requires
     same-length
     same-length-2
-    returns-4)
+    returns-3)

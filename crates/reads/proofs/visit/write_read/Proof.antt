@@ -1,9 +1,8 @@
 -- `reads::visit::write_read` meets its contract. Assumes nothing.
-use mathlib.Core.Path.{ap}
-use Prim.Native.Nat.{ℕ, _+_}
+use mathlib.Core.Path.{ap, _∙_}
+use Prim.Native.Nat.{_+_}
 use Rattle.base.proofs.PasteLaws.{set-pasted}
-use Rattle.dna.specs.declared.Counts.{Counts}
-use Rattle.reads.specs.Walked.{countsIn, lettersIn}
+use Rattle.reads.specs.Walked.{countsAs, countsIn, lettersIn}
 use borrow.Author.Needs.{needs}
 use Rattle.reads.proofs.visit.write_read.Statement.{statement}
 use Rattle.reads.proofs.visit.write_read.Tie as tie
@@ -23,6 +22,9 @@ mul-ends c = search needs
 slice-write-ends : tie.Need-slice-write-ends
 slice-write-ends c = search needs
 
+counts-of-requires : tie.Need-counts-of-requires
+counts-of-requires c κs = search needs
+
 same-length : tie.Need-same-length
 same-length c = search needs
 
@@ -32,19 +34,11 @@ same-length-2 c = search needs
 returns : tie.Need-returns
 unfolding countsIn lettersIn
 returns c =
-    let put = c .before .before in
+    let put = c .before .before .before in
     let start = put .before .before .before .before .before .before .before in
     let a = start .args in
     let read = a .read in (
-      ap
-          (λ (n : ℕ).
-          record {
-            reads = 1;
-            letters = read .length;
-            entries = read .layout .«entry_count»;
-            differences = n;
-          })
-          (put .put-read .ensures .1),
+      c .counts-of .ensures ∙ ap (countsAs read) (put .put-read .ensures .1),
       put .put-read .ensures .0,
       set-pasted (a .ends .now) (a .index) (a .from + read .length) (start .pre .2 .end-fits),
     )
@@ -58,6 +52,7 @@ write-read-spec =
     cast-ends
     mul-ends
     slice-write-ends
+    counts-of-requires
     same-length
     same-length-2
     returns)
