@@ -3,28 +3,23 @@ use mathlib.Core.Path.{_≡_, refl, sym, ap, ap₂, _∙_, subst}
 use Prim.Native.Nat.{ℕ, _^_, _≤_, _<_}
 use native.Mathlib.Omega.{arith}
 use mathlib.Core.Bool.{Bool, true, false, cond, not, _||_}
-use mathlib.Core.List.{List, [], _∷_, flatten}
+use mathlib.Core.List.{List, flatten}
 use lib.ListN.{length}
 use lib.Dec.{ltb, eqb}
-use borrow.Author.Tests.{lt-ltb, le-ltb, ltb-false, eqb-true}
+use borrow.Author.Tests.{le-ltb, eqb-true}
 use Rattle.base.specs.Lists.{AllBytes, any, total}
-use Rattle.base.specs.Numbers.{le}
-use Rattle.base.specs.Faults.{fault}
 use Rattle.base.specs.Paste.{pasted}
-use Rattle.base.specs.Answer.{checked, found, refused, andThen, refusedAs}
-use Rattle.base.proofs.AnswerLaws.{found-same, checked-found, checked-none, andThen-parts}
-use Rattle.base.proofs.AnswerLaws.{andThen-found, andThen-refused, found-refusedAs, cond-yes, cond-no}
+use Rattle.base.specs.Answer.{checked, found, refused, refusedAs}
+use Rattle.base.proofs.AnswerLaws.{found-same, checked-found, andThen-parts, andThen-found}
+use Rattle.base.proofs.AnswerLaws.{andThen-refused, found-refusedAs, cond-yes, cond-no}
 use Rattle.base.proofs.NumberLaws.{le-below}
-use Rattle.base.proofs.Tests.{or-neither, neither-or, or-right, not-false, absurd-test}
-use Rattle.dna.specs.Reference.{referenceSizeWrong, ReferenceFits}
+use Rattle.base.proofs.Tests.{or-neither, neither-or, not-false}
+use Rattle.dna.specs.Reference.{referenceSizeWrong}
 use Rattle.dna.specs.SizesAt.{lengthsGiven}
-use Rattle.dna.specs.Counts.{Counted}
-use Rattle.dna.specs.Division.{Division, divisionLetters, divisionCounts, readEnds}
 use Rattle.dna.specs.Walk.{ofRead, Walk, refusedAt, sectionWalk}
 use Rattle.dna.specs.declared.Counts.{Counts}
 use Rattle.format.specs.Header.{headerOf, readCount}
-use Rattle.format.specs.Sections.{dnaNumber, sizeNumber, nNumber, sectionOf, blockLength}
-use Rattle.format.specs.HeaderFaults.{headerFaults}
+use Rattle.format.specs.Sections.{dnaNumber, sizeNumber, nNumber, sectionOf}
 use Rattle.format.specs.Lengths.{dnaSizeWrong, nSectionWrong, lengthFaults}
 use Rattle.format.specs.WellFormed.{BlockDivision}
 use Rattle.format.specs.Joined.{blockReads, blockCounts}
@@ -35,9 +30,8 @@ use Rattle.format.specs.Answered.{outcomeOfBlock}
 use Rattle.format.specs.declared.BlockOutcome.the-variants as outcomes
 use Rattle.format.proofs.BlockLaws.{section-bytes}
 use Rattle.lengths.specs.Given.{lengthsFound, lengthsNumber}
-use Rattle.reads.specs.ReadWalk.{Source}
 use Rattle.reads.specs.Cursor.{Arrived}
-use Rattle.reads.specs.Walked.{foundReads, sizeOf, countsWith, readsCounts, countsOf, noRead, lastOf}
+use Rattle.reads.specs.Walked.{foundReads, countsWith, readsCounts, countsOf, noRead, lastOf}
 use Rattle.reads.specs.Walked.{walkAnswer, lettersOf, endsOf, WalkDone, Writable}
 use Rattle.reads.specs.Walked as walked
 use Rattle.reads.specs.declared.Read.{Read}
@@ -49,7 +43,7 @@ use Rattle.reads.proofs.AllReadLaws.{all-letters, all-ends, all-counts, all-siz
 use Rattle.reads.proofs.AllReadLaws.{length-lettersOf}
 use Rattle.blocks.specs.Judged.{blockSource, isFixed, eachLength, blockWalk, BlockReady}
 use Rattle.blocks.specs.Judged.{answerOf, judged}
-use Rattle.blocks.specs.Decoding.{Decodes, Decodable}
+use Rattle.blocks.specs.Decoding.{Decodes}
 
 -- ---- A judgement, taken apart
 

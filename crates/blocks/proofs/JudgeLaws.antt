@@ -1,27 +1,23 @@
 -- What judging a block gives, way by way, as code finds it. Assumes nothing.
-use mathlib.Core.Path.{_≡_, refl, sym, ap, ap₂, _∙_, subst}
+use mathlib.Core.Path.{_≡_, refl, sym, ap, ap₂, _∙_}
 use Prim.Native.Nat.{ℕ, _≤_, _<_}
 use native.Mathlib.Omega.{arith}
 use mathlib.Core.Bool.{Bool, true, false, cond, not}
 use mathlib.Core.List.{List, [], _∷_}
 use lib.ListN.{length}
-use lib.Dec.{ltb, eqb}
-use borrow.Author.Tests.{lt-ltb, le-ltb, eqb-true}
-use Rattle.base.specs.Lists.{AllBytes, any, total}
-use Rattle.base.specs.Groups.{groupCount}
-use Rattle.base.specs.Numbers.{nonNegative}
-use Rattle.base.specs.Faults.{Fault, fault, NoneFits}
+use lib.Dec.{eqb}
+use borrow.Author.Tests.{lt-ltb, le-ltb}
+use Rattle.base.specs.Lists.{AllBytes, total}
+use Rattle.base.specs.Faults.{fault}
 use Rattle.base.specs.Answer.{Scan, firstNumber, checked, found, refused, andThen, refusedAs}
 use Rattle.base.proofs.AnswerLaws.{checked-none, checked-first, andThen-found, andThen-refused}
 use Rattle.base.proofs.AnswerLaws.{refusedAs-found, cond-yes, cond-no}
 use Rattle.base.proofs.ListLaws.{by-test}
-use Rattle.base.proofs.Tests.{neither-or, not-false}
 use Rattle.dna.specs.Reference.{referenceSizeWrong, ReferenceFits}
 use Rattle.dna.specs.SizesAt.{lengthsGiven}
-use Rattle.dna.specs.Division.{Division, divisionCounts}
 use Rattle.dna.specs.Walk.{ofRead, Walk, refusedAt, sectionWalk}
 use Rattle.dna.specs.declared.Counts.{Counts}
-use Rattle.format.specs.Header.{headerOf, flagSet, sameLengthFlag, readCount}
+use Rattle.format.specs.Header.{headerOf, readCount}
 use Rattle.format.specs.Sections.{dnaNumber, sizeNumber, nNumber, sectionOf, blockLength}
 use Rattle.format.specs.HeaderFaults.{headerFaults}
 use Rattle.format.specs.Lengths.{dnaSizeWrong, nSectionWrong, lengthFaults}
@@ -30,16 +26,12 @@ use Rattle.format.specs.Joined.{blockCounts}
 use Rattle.format.specs.BlockAnswer.{headerRefused, lengthsAnswer, dnaTrailing, blockAnswer}
 use Rattle.format.specs.BlockAnswer.{blockOutcome, validatedBlock}
 use Rattle.format.specs.Answered.{outcomeOfBlock}
-use Rattle.format.specs.declared.BlockOutcome.{BlockOutcome}
 use Rattle.format.specs.declared.BlockOutcome.the-variants as outcomes
-use Rattle.format.proofs.AnswerNumbers.{afterLengths, afterReference, past-reference}
-use Rattle.format.proofs.AnswerNumbers.{reference-refused}
+use Rattle.format.proofs.AnswerNumbers.{afterLengths, past-reference, reference-refused}
 use Rattle.format.proofs.BlockLaws.{section-bytes}
 use Rattle.lengths.specs.Given.{lengthsFound, lengthsNumber}
 use Rattle.lengths.proofs.GivenLaws.{LengthsKnown, known-zero}
-use Rattle.reads.specs.ReadWalk.{Source}
-use Rattle.reads.specs.Cursor.{sourceOf, Arrived, firstRead, readSteps}
-use Rattle.reads.specs.Walked.{countsWith, countsOf, walkAnswer}
+use Rattle.reads.specs.Walked.{countsWith, walkAnswer}
 use Rattle.reads.specs.declared.Read.{Read}
 use Rattle.reads.specs.declared.ReadCursor.{ReadCursor}
 use Rattle.reads.specs.declared.Walked.the-variants as walks

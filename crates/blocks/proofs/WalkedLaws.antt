@@ -9,7 +9,7 @@ use Rattle.base.specs.Answer.{found, refused}
 use Rattle.dna.specs.SizesAt.{lengthsGiven}
 use Rattle.dna.specs.Counts.{Counted}
 use Rattle.dna.specs.Division.{Division, divisionCounts}
-use Rattle.dna.specs.Walk.{ReadRefusal, Walk, refusedAt, sectionWalk}
+use Rattle.dna.specs.Walk.{Walk, refusedAt, sectionWalk}
 use Rattle.dna.specs.declared.Counts.{Counts}
 use Rattle.reads.specs.ReadWalk.{Source}
 use Rattle.reads.specs.Cursor.{Arrived, firstRead, readSteps}

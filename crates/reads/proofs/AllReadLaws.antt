@@ -8,7 +8,7 @@ use lib.ListN.{length, length-map, length-append}
 use Rattle.base.specs.Lists.{total, placesFrom}
 use Rattle.dna.specs.Letters.{recordLetters}
 use Rattle.dna.specs.Counts.{Counted, plus, sumCounts, recordCounts}
-use Rattle.dna.specs.Division.{Division, Read, readsOf, divisionLetters, divisionCounts, readEnds}
+use Rattle.dna.specs.Division.{Division, Read, divisionLetters, divisionCounts, readEnds}
 use Rattle.reads.specs.ReadWalk.{Source, FoundRead, readOf}
 use Rattle.reads.specs.Walked.{readLetters, readSize, lettersOf, endsOf, sizeOf, countsWith}
 use Rattle.reads.specs.Walked.{readCounts, readsCounts}

@@ -1,20 +1,19 @@
 -- The walk read by read answers what the walk by groups answers: the reads of its division, or the
 -- same refusal. Assumes nothing.
 use mathlib.Core.Path.{_≡_, refl, sym, ap, ap₂, _∙_}
-use Prim.Native.Nat.{ℕ, zero, suc, _+_, _-_, _*_, _/_, _%_, _≤_, _<_, min}
+use Prim.Native.Nat.{ℕ, suc, _+_, _-_, _/_, _%_, _≤_, _<_, min}
 use native.Mathlib.Nat.{add-zero}
 use native.Mathlib.Omega.{arith}
-use mathlib.Core.Bool.{Bool, true, false, cond}
+use mathlib.Core.Bool.{true, false}
 use mathlib.Core.List.{List, [], _∷_, _++_, map}
 use lib.ListN.{length, getD, take, drop, length-take, length-drop, take-append-drop}
 use lib.Seq.{getD-drop, drop-drop}
-use lib.Dec.{eqb}
 use borrow.Author.Tests.{eq-eqb, ne-eqb}
 use Rattle.base.specs.Groups.{inGroups}
 use Rattle.base.specs.Faults.{Fault}
-use Rattle.base.specs.Answer.{Answer, checked, found, refused, andThen, refusedAs}
+use Rattle.base.specs.Answer.{checked, found, andThen, refusedAs}
 use Rattle.base.proofs.GroupLaws.{inGroups-nil, inGroups-cons, by-groups}
-use Rattle.dna.specs.Record.{ReadContext, StoredRecord, recordBytes}
+use Rattle.dna.specs.Record.{ReadContext, StoredRecord}
 use Rattle.dna.specs.Alignment.{positionAfter}
 use Rattle.dna.specs.Division.{GroupFlags, flagsAt, Piece, Division, Read, Slot, contextOf}
 use Rattle.dna.specs.Division.{groupSlots, slots, readsFrom, readsOf}
@@ -22,9 +21,9 @@ use Rattle.dna.specs.RecordAt.{recordAt}
 use Rattle.dna.specs.Walk.{ofRead, Walk, refusedAt, lastPosition, readsAt, groupFaults, groupAt}
 use Rattle.dna.specs.Walk.{groupsAt, sectionWalk}
 use Rattle.dna.proofs.WalkLaws.{readsFrom-append}
-use Rattle.reads.specs.ReadWalk.{Source, Standing, firstStanding, FoundRead, readOf}
-use Rattle.reads.specs.ReadWalk.{beginsGroup, faultsBefore, flagsBefore, recordPlace}
-use Rattle.reads.specs.ReadWalk.{contextAt, readAt, standingAfter, readsLeft}
+use Rattle.reads.specs.ReadWalk.{Source, Standing, firstStanding, readOf, beginsGroup}
+use Rattle.reads.specs.ReadWalk.{faultsBefore, flagsBefore, recordPlace, contextAt, readAt}
+use Rattle.reads.specs.ReadWalk.{standingAfter, readsLeft}
 use Rattle.reads.proofs.AndThenLaws.{andThen-assoc, andThen-cong, andThen-same}
 use Rattle.reads.proofs.AndThenLaws.{andThen-checked}
 

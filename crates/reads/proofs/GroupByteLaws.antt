@@ -2,10 +2,10 @@
 -- Assumes nothing.
 use mathlib.Core.Path.{_≡_, refl, sym, ap, ap₂, _∙_}
 use Prim.Native.Nat.{ℕ, zero, suc, _+_, _-_, _*_, _/_, _%_, _^_, _≤_, _<_, min}
-use native.Mathlib.Nat.{div-div-eq-div-mul, mul-comm, zero-mul, one-mul, zero-add}
-use native.Mathlib.Nat.{mod-one, pow-succ'}
+use native.Mathlib.Nat.{div-div-eq-div-mul, mul-comm, zero-mul, one-mul, zero-add, mod-one}
+use native.Mathlib.Nat.{pow-succ'}
 use native.Mathlib.Omega.{arith}
-use mathlib.Core.Bool.{Bool, true, false, not, _||_}
+use mathlib.Core.Bool.{Bool, false, not, _||_}
 use mathlib.Core.List.{List}
 use lib.Arith.{mod-mul}
 use lib.Pow.{pow-pos}

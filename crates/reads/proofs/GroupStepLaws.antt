@@ -1,19 +1,18 @@
 -- What taking the bytes of a group gives, way by way, as code finds it. Assumes nothing.
-use mathlib.Core.Path.{_≡_, refl, sym, ap, _∙_}
+use mathlib.Core.Path.{_≡_, sym, ap, _∙_}
 use Prim.Native.Nat.{ℕ, _+_, _-_, _/_, _%_, _≤_, _<_, min}
 use native.Mathlib.Omega.{arith}
-use mathlib.Core.Bool.{Bool, true, false, not}
+use mathlib.Core.Bool.{true, false}
 use mathlib.Core.List.{List}
 use lib.ListN.{length, getD}
-use lib.Dec.{ltb, eqb}
 use borrow.Author.Tests.{lt-ltb, le-ltb, eq-eqb, ne-eqb}
 use Rattle.base.specs.Lists.{AllBytes}
 use Rattle.base.specs.Numbers.{le}
 use Rattle.base.specs.Answer.{checked}
-use Rattle.dna.specs.Division.{GroupFlags, flagsAt, groupBitStray, withNByteWrong}
+use Rattle.dna.specs.Division.{flagsAt, groupBitStray, withNByteWrong}
 use Rattle.dna.specs.Walk.{groupFaults}
 use Rattle.reads.specs.declared.groups.GroupStep.the-variants as groups
-use Rattle.reads.specs.ReadWalk.{beginsGroup, faultsBefore, recordPlace}
+use Rattle.reads.specs.ReadWalk.{faultsBefore, recordPlace}
 use Rattle.reads.specs.Cursor.{flagsOf, groupBefore, groupStep}
 use Rattle.reads.proofs.FlatLaws.{first-read, not-first}
 use Rattle.reads.proofs.GroupByteLaws.{flags-there}

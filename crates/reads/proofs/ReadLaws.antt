@@ -5,10 +5,10 @@ use mathlib.Core.Path.{_≡_, refl, sym, ap, ap₂, _∙_, subst}
 use Prim.Native.Nat.{ℕ, zero, suc, _+_, _-_, _^_, _≤_, _<_}
 use native.Mathlib.Nat.{add-zero, zero-add, suc-add}
 use native.Mathlib.Omega.{arith}
-use mathlib.Core.Bool.{Bool, true, false}
+use mathlib.Core.Bool.{Bool}
 use mathlib.Core.List.{List, [], _∷_, _++_, map, map-append}
 use mathlib.Core.Option.{some}
-use lib.ListN.{length, getD, take, length-append, length-map}
+use lib.ListN.{length, getD, take, length-map}
 use lib.Seq.{take-at, getD-append-add}
 use Rattle.base.specs.Lists.{AllBytes, total}
 use Rattle.base.specs.Answer.{found, refused, andThen}
@@ -19,18 +19,18 @@ use Rattle.dna.specs.Division.{Division, readsOf}
 use Rattle.dna.specs.Division as divisions
 use Rattle.dna.specs.Walk.{ReadRefusal, Walk, sectionWalk}
 use Rattle.dna.specs.Counts.{Counted, sumCounts}
-use Rattle.lengths.specs.Cursor.{firstCursor, lengthsLeft}
+use Rattle.lengths.specs.Cursor.{lengthsLeft}
 use Rattle.lengths.proofs.NextLaws.{walk-start}
 use Rattle.reads.specs.declared.ReadCursor.{ReadCursor}
 use Rattle.reads.specs.declared.Walked.the-variants as walks
-use Rattle.reads.specs.ReadWalk.{Source, firstStanding, FoundRead, readOf, readsLeft}
-use Rattle.reads.specs.Cursor.{SourceFits, CursorFits, flagsOf, firstRead, standingOf}
-use Rattle.reads.specs.Cursor.{Taken, Arrived, readStep, readSteps, readIn}
+use Rattle.reads.specs.ReadWalk.{Source, FoundRead, readOf}
+use Rattle.reads.specs.Cursor.{SourceFits, CursorFits, flagsOf, firstRead, Taken, Arrived}
+use Rattle.reads.specs.Cursor.{readStep, readSteps, readIn}
 use Rattle.reads.specs.Walked.{foundReads, isArrived, readSize, sizeOf, readCounts, countsOf}
-use Rattle.reads.specs.Walked.{readsCounts, noRead, lastOf, walkAnswer, Writable}
+use Rattle.reads.specs.Walked.{readsCounts, lastOf, walkAnswer, Writable}
 use Rattle.reads.proofs.AndThenLaws.{andThen-assoc, andThen-cong, andThen-same}
-use Rattle.reads.proofs.FlatLaws.{divisionLeft, reads-section}
-use Rattle.reads.proofs.StepsLaws.{readsTaken, steps-left, steps-lengths}
+use Rattle.reads.proofs.FlatLaws.{reads-section}
+use Rattle.reads.proofs.StepsLaws.{steps-left, steps-lengths}
 use Rattle.reads.proofs.TurnLaws.{plus-none}
 use Rattle.reads.proofs.TakenLaws.{ReadStands, TakenStands, taken-stands, cursor-fits}
 

@@ -1,6 +1,6 @@
 -- What a step gives, way by way, as code finds it; and what it leaves. Assumes nothing.
 use mathlib.Core.Path.{_≡_, refl, sym, ap, ap₂, _∙_, subst}
-use Prim.Native.Nat.{ℕ, _+_, _%_, _^_, _≤_, _<_}
+use Prim.Native.Nat.{ℕ, _+_, _%_, _≤_}
 use native.Mathlib.Omega.{arith}
 use mathlib.Core.Bool.{Bool, true, false, cond, _||_}
 use mathlib.Core.List.{List, [], _∷_}
@@ -9,7 +9,7 @@ use lib.Dec.{ltb}
 use borrow.Author.Tests.{ltb-false}
 use Rattle.base.specs.Lists.{any, AllBytes}
 use Rattle.base.specs.Faults.{Fault, NoneFits}
-use Rattle.base.specs.Answer.{Answer, Scan, checked, found, refused, andThen, refusedAs}
+use Rattle.base.specs.Answer.{Scan, checked, found, refused, andThen, refusedAs}
 use Rattle.dna.specs.Record.{ReadContext, RecordFields, perfect, global, local, raw, raw4}
 use Rattle.dna.specs.Record.{StoredRecord}
 use Rattle.dna.specs.Alignment.{position, positionAfter, isAligned}
@@ -21,7 +21,7 @@ use Rattle.lengths.specs.Cursor.{lengthStep}
 use Rattle.lengths.specs.declared.SizeCursor.{SizeCursor}
 use Rattle.lengths.specs.declared.LengthStep.{LengthStep}
 use Rattle.lengths.specs.declared.LengthStep.the-variants as lengths
-use Rattle.records.specs.Decoded.{contextFrom, recordOf, layoutOf, decodedFrom, decodedAt}
+use Rattle.records.specs.Decoded.{recordOf, layoutOf, decodedFrom, decodedAt}
 use Rattle.records.specs.declared.Layout.{Layout}
 use Rattle.records.specs.declared.Decoded.the-variants as answers
 use Rattle.reads.specs.declared.ReadCursor.{ReadCursor}
@@ -30,7 +30,7 @@ use Rattle.reads.specs.declared.groups.GroupStep.{GroupStep}
 use Rattle.reads.specs.declared.groups.GroupStep.the-variants as groups
 use Rattle.reads.specs.ReadWalk.{Source, FoundRead, beginsGroup, faultsBefore, flagsBefore}
 use Rattle.reads.specs.ReadWalk.{recordPlace, contextAt, readAt}
-use Rattle.reads.specs.Cursor.{sourceOf, flagsOf, bitsAt, groupBefore, groupStep, standingOf}
+use Rattle.reads.specs.Cursor.{sourceOf, flagsOf, groupBefore, groupStep, standingOf}
 use Rattle.reads.specs.Cursor.{cursorAfter, Taken, stepOfLength, readStep, readIn, positionIn}
 use Rattle.reads.specs.Cursor.{stepAnswer}
 use Rattle.reads.proofs.GroupByteLaws.{flags-there}

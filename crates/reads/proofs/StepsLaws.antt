@@ -1,18 +1,17 @@
 -- So many steps from a cursor on are the reads that are left, for the lengths that its size cursor
 -- still gives. Assumes nothing.
-use mathlib.Core.Path.{_≡_, refl, sym, ap, ap₂, _∙_, subst}
-use Prim.Native.Nat.{ℕ, zero, suc, _+_, _-_, _≤_, _<_}
+use mathlib.Core.Path.{_≡_, refl, sym, ap, ap₂, _∙_}
+use Prim.Native.Nat.{ℕ, zero, suc, _+_}
 use native.Mathlib.Numerals.{add-one}
 use native.Mathlib.Omega.{arith}
 use mathlib.Core.Bool.{Bool, true, false, cond}
-use mathlib.Core.List.{List, [], _∷_, _++_, map}
+use mathlib.Core.List.{List, [], _∷_, map}
 use mathlib.Core.Option.{Option, none, some}
-use lib.ListN.{length}
 use Rattle.base.specs.Lists.{AllBytes}
-use Rattle.base.specs.Answer.{found, refused, andThen}
+use Rattle.base.specs.Answer.{found, andThen}
 use Rattle.dna.specs.Record.{ReadContext}
-use Rattle.dna.specs.Division.{contextOf, GroupFlags}
-use Rattle.base.proofs.AnswerLaws.{found-same, absurd-found, andThen-parts}
+use Rattle.dna.specs.Division.{contextOf}
+use Rattle.base.proofs.AnswerLaws.{found-same, andThen-parts}
 use Rattle.dna.specs.Walk.{Walk}
 use Rattle.lengths.specs.Cursor.{lengthStep, cursorEnded, consed, onStep, lengthsLeft}
 use Rattle.lengths.specs.declared.SizeCursor.{SizeCursor}
@@ -20,9 +19,9 @@ use Rattle.lengths.specs.declared.LengthStep.{LengthStep}
 use Rattle.lengths.specs.declared.LengthStep.the-variants as lengths
 use Rattle.reads.specs.declared.ReadCursor.{ReadCursor}
 use Rattle.reads.specs.ReadWalk.{Source, Standing, FoundRead, readAt, standingAfter}
-use Rattle.reads.specs.ReadWalk.{contextAt, flagsBefore, readsLeft}
-use Rattle.reads.specs.Cursor.{standingOf, cursorAfter, Taken, Arrived, stepOfLength, readStep}
-use Rattle.reads.specs.Cursor.{readSteps}
+use Rattle.reads.specs.ReadWalk.{contextAt, readsLeft}
+use Rattle.reads.specs.Cursor.{standingOf, cursorAfter, Taken, Arrived, stepOfLength}
+use Rattle.reads.specs.Cursor.{readStep, readSteps}
 use Rattle.reads.specs.Walked.{readSize}
 use Rattle.reads.proofs.AndThenLaws.{andThen-assoc, andThen-cong, andThen-known}
 use Rattle.reads.proofs.StepLaws.{flags-before}

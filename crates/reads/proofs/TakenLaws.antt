@@ -1,30 +1,27 @@
 -- What is known of a read that a step took, and of the cursor after it. Assumes nothing.
 use mathlib.Core.Path.{_≡_, refl, sym, ap, _∙_, subst}
-use Prim.Native.Nat.{ℕ, zero, suc, _+_, _%_, _^_, _≤_, _<_}
+use Prim.Native.Nat.{ℕ, _+_, _^_, _≤_, _<_}
 use native.Mathlib.Omega.{arith}
 use mathlib.Core.Bool.{Bool, true, false, cond}
 use mathlib.Core.List.{List, [], _∷_}
 use lib.ListN.{length}
 use Rattle.base.specs.Lists.{AllBytes, build, countTrue}
-use Rattle.base.specs.Answer.{Answer, checked, found, refused, andThen, refusedAs}
+use Rattle.base.specs.Answer.{found, refused, refusedAs}
 use Rattle.base.proofs.ListLaws.{length-build, by-test}
 use Rattle.base.proofs.AnswerLaws.{found-same, absurd-found, checked-found, andThen-parts}
 use Rattle.base.proofs.AnswerLaws.{found-refusedAs}
-use Rattle.dna.specs.Reference.{maxReferenceBases, ReferenceFits}
+use Rattle.dna.specs.Reference.{ReferenceFits}
 use Rattle.dna.specs.Sizes.{maxReadLength}
-use Rattle.dna.specs.Record.{ReadContext, RecordFields, StoredRecord, recordBytes}
-use Rattle.dna.specs.Alignment.{isAligned, alignedLength, position, positionAfter, leftmost}
-use Rattle.dna.specs.Alignment.{entriesOf}
+use Rattle.dna.specs.Record.{ReadContext, RecordFields, StoredRecord}
+use Rattle.dna.specs.Alignment.{isAligned, position, positionAfter, leftmost, entriesOf}
 use Rattle.dna.specs.Counts.{isDifference, recordCounts}
 use Rattle.dna.specs.Division.{contextOf}
 use Rattle.dna.specs.RecordAt.{recordAt}
 use Rattle.dna.specs.Rules.{RulesHold}
 use Rattle.dna.specs.Walk.{ofRead, Walk, refusedAt}
-use Rattle.dna.specs.declared.Counts.{Counts}
 use Rattle.dna.proofs.RecordSound.{RecordFoundAt, record-found}
 use Rattle.dna.proofs.RulesMean.{rules-mean}
 use Rattle.lengths.specs.Cursor.{lengthStep}
-use Rattle.lengths.specs.declared.SizeCursor.{SizeCursor}
 use Rattle.lengths.specs.declared.LengthStep.{LengthStep}
 use Rattle.lengths.specs.declared.LengthStep.the-variants as lengths
 use Rattle.lengths.proofs.StepLaws.{step-ranged}
@@ -40,8 +37,8 @@ use Rattle.reads.specs.ReadWalk.{Source, Standing, FoundRead, faultsBefo
 use Rattle.reads.specs.ReadWalk.{recordPlace, readAt}
 use Rattle.reads.specs.Cursor.{SourceFits, CursorFits, standingOf, cursorAfter, Taken}
 use Rattle.reads.specs.Cursor.{stepOfLength, readStep, readIn, stepAnswer}
-use Rattle.reads.specs.Walked.{readLetters, readSize, countsWith, readCounts, countsOf}
-use Rattle.reads.specs.Walked.{lettersIn, countsIn}
+use Rattle.reads.specs.Walked.{readLetters, countsWith, readCounts, countsOf, lettersIn}
+use Rattle.reads.specs.Walked.{countsIn}
 
 -- ---- The answer of a step, taken apart
 

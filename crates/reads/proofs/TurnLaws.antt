@@ -1,7 +1,7 @@
 -- A walk turn by turn: what it answers and leaves from a cursor on, with what was counted and
 -- written before. Assumes nothing.
-use mathlib.Core.Path.{_≡_, refl, sym, ap, ap₂, _∙_, subst}
-use Prim.Native.Nat.{ℕ, zero, suc, _+_, _-_, _^_, _≤_, _<_}
+use mathlib.Core.Path.{_≡_, refl, sym, ap, ap₂, _∙_}
+use Prim.Native.Nat.{ℕ, zero, suc, _+_, _-_, _≤_, _<_}
 use native.Mathlib.Nat.{not-suc-le-zero, zero-add, add-zero, add-assoc}
 use native.Mathlib.Omega.{arith}
 use mathlib.Core.Bool.{Bool, true, false, cond}
@@ -11,7 +11,7 @@ use Rattle.base.specs.Lists.{total, placesFrom}
 use Rattle.base.specs.Paste.{pasted}
 use Rattle.base.specs.Answer.{found, refused, andThen}
 use Rattle.base.proofs.ListLaws.{length-build}
-use Rattle.base.proofs.PasteLaws.{pasted-nil, pasted-append, length-pasted}
+use Rattle.base.proofs.PasteLaws.{pasted-nil, pasted-append}
 use Rattle.base.proofs.Tests.{absurd-test}
 use Rattle.dna.specs.Letters.{recordLetters}
 use Rattle.dna.specs.Counts.{Counted, zeroCounts, plus, sumCounts}
@@ -26,7 +26,7 @@ use Rattle.reads.specs.ReadWalk.{Source, FoundRead}
 use Rattle.reads.specs.Cursor.{Taken, Arrived, readStep, readSteps, readIn}
 use Rattle.reads.specs.Walked.{foundReads, isArrived, readLetters, readSize, lettersOf}
 use Rattle.reads.specs.Walked.{endsOf, sizeOf, readCounts, readsCounts, countsOf, noRead}
-use Rattle.reads.specs.Walked.{lastOf, walkAnswer, lettersAfter, endsAfter}
+use Rattle.reads.specs.Walked.{lastOf, walkAnswer}
 
 -- ---- One step, then the others
 

@@ -1,16 +1,14 @@
 -- Where a walk stands after some of its turns: how the first begins, what a turn keeps, and what
 -- the walk answers and leaves at its end. Assumes nothing.
 use mathlib.Core.Path.{_≡_, refl, sym, ap, ap₂, _∙_, subst}
-use Prim.Native.Nat.{ℕ, zero, suc, _+_, _-_, _*_, _^_, _≤_, _<_}
-use native.Mathlib.Nat.{zero-add}
+use Prim.Native.Nat.{ℕ, _+_, _-_, _*_, _^_, _≤_, _<_}
 use native.Mathlib.Omega.{arith}
 use mathlib.Core.Bool.{Bool, true, false, cond, _||_}
 use mathlib.Core.List.{List, [], _∷_, _++_}
 use lib.ListN.{length}
 use Rattle.base.specs.Lists.{AllBytes}
 use Rattle.base.specs.Paste.{pasted}
-use Rattle.base.specs.Answer.{found, refused}
-use Rattle.base.proofs.ListLaws.{by-test}
+use Rattle.base.specs.Answer.{found}
 use Rattle.base.proofs.PasteLaws.{length-pasted}
 use Rattle.dna.specs.Reference.{ReferenceFits}
 use Rattle.dna.specs.Counts.{zeroCounts, plus}
@@ -20,7 +18,6 @@ use Rattle.format.specs.Answered.{countedOf}
 use Rattle.records.specs.Printed.{Printable}
 use Rattle.reads.specs.declared.Read.{Read}
 use Rattle.reads.specs.declared.ReadCursor.{ReadCursor}
-use Rattle.reads.specs.declared.Walked.{Walked}
 use Rattle.reads.specs.declared.Walked.the-variants as walks
 use Rattle.reads.specs.ReadWalk.{Source, FoundRead}
 use Rattle.reads.specs.Cursor.{SourceFits, CursorFits, Taken, Arrived, readStep, readSteps}

@@ -1,6 +1,5 @@
 -- `blocks::decode` meets its contract: one law for each way through. Assumes nothing.
 use mathlib.Core.Path.{_≡_, sym, ap, _∙_}
-use Prim.Native.Nat.{_≤_, _<_}
 use native.Mathlib.Omega.{arith}
 use mathlib.Core.List.{flatten}
 use lib.ListN.{length}

@@ -1,6 +1,6 @@
 -- `blocks::walk_block` meets its contract: it reads from the sections of the block. Assumes nothing.
 use mathlib.Core.Path.{_≡_, ap, ap₂, _∙_}
-use Prim.Native.Nat.{ℕ, _≤_}
+use Prim.Native.Nat.{_≤_}
 use lib.ListN.{length}
 use borrow.Author.Needs.{needs}
 use Rattle.base.specs.Numbers.{nonNegative}
@@ -14,7 +14,6 @@ use Rattle.blocks.proofs.SourceLaws.{walk-is, walk-ready, writable-is, 
 use Rattle.blocks.proofs.walk_block.Statement.{statement}
 use Rattle.blocks.proofs.walk_block.Tie as tie
 use Rattle.blocks.proofs.walk_block.Reads as reads
-use Rattle.blocks.proofs.walk_block.Lts as lts
 
 -- Where the function begins.
 abbrev start : (c : tie.After-section3) → tie.Start

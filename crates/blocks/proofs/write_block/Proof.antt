@@ -1,5 +1,5 @@
 -- `blocks::write_block` meets its contract: the walk is not refused, and writes all. Assumes nothing.
-use mathlib.Core.Path.{_≡_, sym, _∙_}
+use mathlib.Core.Path.{sym, _∙_}
 use native.Mathlib.Omega.{arith}
 use Rattle.base.specs.Lists.{AllBytes}
 use Rattle.blocks.proofs.DecodeLaws.{BlockParts, block-parts, all-found, block-writable}

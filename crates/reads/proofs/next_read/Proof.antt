@@ -1,8 +1,7 @@
 -- `reads::next_read` meets its contract: one law for each way through. Assumes nothing.
 use mathlib.Core.Path.{_≡_, sym, ap, _∙_}
-use Prim.Native.Nat.{ℕ, _%_, _≤_, _<_}
+use Prim.Native.Nat.{ℕ, _%_, _≤_}
 use native.Mathlib.Omega.{arith}
-use mathlib.Core.List.{List}
 use lib.ListN.{length}
 use borrow.Author.Needs.{needs}
 use Rattle.base.specs.Lists.{AllBytes}
@@ -13,17 +12,15 @@ use Rattle.lengths.specs.declared.LengthStep.the-variants as lengths
 use Rattle.lengths.proofs.StepLaws.{step-ranged}
 use Rattle.records.specs.Decoded.{contextFrom, decodedAt}
 use Rattle.records.specs.declared.Bits.{Bits}
-use Rattle.records.specs.declared.Decoded.the-variants as answers
 use Rattle.reads.specs.ReadWalk.{Source}
 use Rattle.reads.specs.Cursor.{sourceOf, flagsOf, bitsAt, groupStep}
 use Rattle.reads.specs.declared.ReadStep.the-variants as steps
 use Rattle.reads.specs.declared.groups.GroupStep.the-variants as groups
-use Rattle.reads.proofs.StepLaws.{group-place, step-no-length, step-no-group}
-use Rattle.reads.proofs.StepLaws.{step-no-record, step-found}
+use Rattle.reads.proofs.StepLaws.{group-place, step-no-length, step-no-group, step-no-record}
+use Rattle.reads.proofs.StepLaws.{step-found}
 use Rattle.reads.proofs.next_read.Statement.{statement}
 use Rattle.reads.proofs.next_read.Tie as tie
 use Rattle.reads.proofs.next_read.Reads as reads
-use Rattle.reads.proofs.next_read.Lts as lts
 
 -- ---- Where the function begins, and what it reads from
 

@@ -1,21 +1,18 @@
 -- `reads::walk` meets its contract. The loop's invariant: what is answered and left from the cursor
 -- on, with what was counted and written, is what the whole walk answers and leaves. Assumes nothing.
-use mathlib.Core.Path.{_≡_, refl, sym, _∙_}
-use Prim.Native.Nat.{ℕ, _+_, _-_, _^_, _≤_, _<_}
+use mathlib.Core.Path.{sym, _∙_}
+use Prim.Native.Nat.{_-_, _^_, _<_}
 use native.Mathlib.Omega.{arith}
-use mathlib.Core.List.{List}
-use lib.ListN.{length}
 use borrow.Author.Needs.{needs}
 use Rattle.base.specs.Lists.{AllBytes}
 use Rattle.reads.specs.ReadWalk.{Source}
-use Rattle.reads.specs.Cursor.{sourceOf, SourceFits, CursorFits, readStep}
+use Rattle.reads.specs.Cursor.{sourceOf}
 use Rattle.reads.proofs.TakenLaws.{StepTook, step-took, step-refused}
 use Rattle.reads.proofs.WalkingLaws.{Walking, walking-first, turn-printable, turn-room}
 use Rattle.reads.proofs.WalkingLaws.{turn-counts, turn-next, walking-refused, walking-end}
 use Rattle.reads.proofs.walk.Statement.{statement}
 use Rattle.reads.proofs.walk.Tie as tie
 use Rattle.reads.proofs.walk.Reads as reads
-use Rattle.reads.proofs.walk.Lts as lts
 
 abbrev Inv-loop : tie.InvT-loop
 Inv-loop reference dna sizes ns reads bases steps count write forward-table reverse-table pair-table letters₀ ends₀ cursor₀ last₀ counts₀ i₀ letters ends cursor last counts i =

@@ -1,6 +1,6 @@
 -- `reads::groups::bit_is_stray` meets its contract: byte by byte, what is left past the last read.
 -- Assumes nothing.
-use mathlib.Core.Path.{_≡_, sym, _∙_}
+use mathlib.Core.Path.{sym, _∙_}
 use borrow.Author.Needs.{needs}
 use borrow.Author.Tests.{eq-eqb, ne-eqb}
 use Rattle.reads.proofs.GroupByteLaws.{past-some, stray-full, stray-few}

@@ -1,5 +1,4 @@
 -- `reads::groups::bits_of` meets its contract: one shift serves the four bytes. Assumes nothing.
-use mathlib.Core.Path.{_≡_}
 use Prim.Native.Nat.{_%_}
 use native.Mathlib.Omega.{arith}
 use borrow.Author.Needs.{needs}
