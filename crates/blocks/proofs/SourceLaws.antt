@@ -20,7 +20,7 @@ use Rattle.reads.specs.Cursor.{SourceFits, CursorFits, Arrived, firstRead, read
 use Rattle.reads.specs.Walked.{WalkDone, Writable}
 use Rattle.reads.specs.declared.Walked.{Walked}
 use Rattle.reads.specs.declared.ReadCursor.{ReadCursor}
-use Rattle.reads.proofs.ReadLaws.{first-fits}
+use Rattle.reads.proofs.StepsLaws.{first-fits}
 use Rattle.blocks.specs.Judged.{blockSource, isFixed, eachLength, blockWalk, BlockReady}
 
 module _ (bases : ℕ) (reference input : List ℕ) (ready : BlockReady bases reference input) where

@@ -1,6 +1,6 @@
 -- Letters, ends and counts of all reads of a block are those of its division. Assumes nothing.
-use mathlib.Core.Path.{_≡_, refl, sym, ap, ap₂, _∙_}
-use Prim.Native.Nat.{ℕ, _+_}
+use mathlib.Core.Path.{_≡_, refl, sym, ap, ap₂, _∙_, subst}
+use Prim.Native.Nat.{ℕ, _+_, _^_, _≤_, _<_}
 use native.Mathlib.Omega.{arith}
 use mathlib.Core.Bool.{Bool, true, false, cond}
 use mathlib.Core.List.{List, [], _∷_, map, flatten, map-map}
@@ -11,9 +11,11 @@ use Rattle.dna.specs.Counts.{Counted, plus, sumCounts, recordCounts}
 use Rattle.dna.specs.Division.{Division, Read, divisionLetters, divisionCounts, readEnds}
 use Rattle.reads.specs.ReadWalk.{Source, FoundRead, readOf}
 use Rattle.reads.specs.Walked.{readLetters, readSize, lettersOf, endsOf, sizeOf, countsWith}
-use Rattle.reads.specs.Walked.{readCounts, readsCounts}
-use Rattle.reads.proofs.TurnLaws.{length-readLetters}
+use Rattle.reads.specs.Walked.{readCounts, readsCounts, foundReads, isArrived, Writable}
+use Rattle.reads.proofs.WrittenLaws.{length-readLetters}
 use Rattle.reads.proofs.ReadLaws.{AllReads}
+use Rattle.dna.specs.Walk.{Walk}
+use Rattle.reads.specs.Cursor.{firstRead, Arrived, readSteps}
 
 -- Differences are left out of a sum as of its parts.
 cond-add : (t : Bool) (a b : ℕ) → cond t (a + b) 0 ≡ cond t a 0 + cond t b 0
@@ -104,3 +106,23 @@ length-lettersOf reference (read ∷ reads) =
     length-append (readLetters reference read) (lettersOf reference reads)
     ∙ ap₂ (λ (m n : ℕ). m + n) (length-readLetters reference read)
     (length-lettersOf reference reads)
+
+-- All reads can be written where there is room for them.
+pub all-writable : (source : Source) (fixed : Bool) (each : ℕ) (lengths′ : List ℕ)
+    (division : Division) (end letterRoom endRoom : ℕ)
+    → AllReads source fixed each lengths′ division end → total lengths′ ≤ letterRoom
+    → source .reads ≤ endRoom → total lengths′ < 2 ^ 32
+    → Writable (readSteps (source .reads) source (firstRead fixed each)) (source .reads)
+    letterRoom endRoom
+unfolding isArrived foundReads sizeOf
+all-writable source fixed each lengths′ division end letterRoom endRoom all letters ends small =
+    let sum : total (map readSize (all .arrived .reads)) ≡ total lengths′ =
+    ap total (all .lengths-are) in
+    subst (λ (walk : Walk Arrived). Writable walk (source .reads) letterRoom endRoom)
+    (sym (all .steps))
+    (record {
+      arrives = refl;
+      letters-fit = omega arith;
+      ends-fit = ends;
+      small = omega arith;
+    })

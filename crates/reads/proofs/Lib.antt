@@ -1,11 +1,15 @@
 pub mod AndThenLaws
+pub mod InsideLaws
 pub mod FlatLaws
 pub mod GroupByteLaws
 pub mod GroupStepLaws
 pub mod StepLaws
 pub mod TakenLaws
 pub mod TurnLaws
+pub mod WrittenLaws
 pub mod WalkingLaws
+pub mod WalkingTurns
+pub mod LeftLaws
 pub mod StepsLaws
 pub mod ReadLaws
 pub mod AllReadLaws

@@ -1,21 +1,17 @@
 -- What a step gives, way by way, as code finds it; and what it leaves. Assumes nothing.
-use mathlib.Core.Path.{_≡_, refl, sym, ap, ap₂, _∙_, subst}
-use Prim.Native.Nat.{ℕ, _+_, _%_, _≤_}
+use mathlib.Core.Path.{_≡_, refl, sym, ap, ap₂, _∙_}
+use Prim.Native.Nat.{ℕ, _+_, _%_}
 use native.Mathlib.Omega.{arith}
-use mathlib.Core.Bool.{Bool, true, false, cond, _||_}
-use mathlib.Core.List.{List, [], _∷_}
+use mathlib.Core.List.{List}
 use lib.ListN.{length}
-use lib.Dec.{ltb}
-use borrow.Author.Tests.{ltb-false}
-use Rattle.base.specs.Lists.{any, AllBytes}
-use Rattle.base.specs.Faults.{Fault, NoneFits}
+use Rattle.base.specs.Lists.{AllBytes}
 use Rattle.base.specs.Answer.{Scan, checked, found, refused, andThen, refusedAs}
 use Rattle.dna.specs.Record.{ReadContext, RecordFields, perfect, global, local, raw, raw4}
 use Rattle.dna.specs.Record.{StoredRecord}
 use Rattle.dna.specs.Alignment.{position, positionAfter, isAligned}
 use Rattle.dna.specs.Division.{GroupFlags, contextOf}
 use Rattle.dna.specs.RecordAt.{recordAt}
-use Rattle.dna.specs.Walk.{ofRead, Walk, refusedAt, groupFaults}
+use Rattle.dna.specs.Walk.{ofRead, Walk, refusedAt}
 use Rattle.dna.specs.declared.Record.{Record}
 use Rattle.lengths.specs.Cursor.{lengthStep}
 use Rattle.lengths.specs.declared.SizeCursor.{SizeCursor}
@@ -26,58 +22,14 @@ use Rattle.records.specs.declared.Layout.{Layout}
 use Rattle.records.specs.declared.Decoded.the-variants as answers
 use Rattle.reads.specs.declared.ReadCursor.{ReadCursor}
 use Rattle.reads.specs.declared.ReadStep.the-variants as steps
-use Rattle.reads.specs.declared.groups.GroupStep.{GroupStep}
 use Rattle.reads.specs.declared.groups.GroupStep.the-variants as groups
 use Rattle.reads.specs.ReadWalk.{Source, FoundRead, beginsGroup, faultsBefore, flagsBefore}
 use Rattle.reads.specs.ReadWalk.{recordPlace, contextAt, readAt}
-use Rattle.reads.specs.Cursor.{sourceOf, flagsOf, groupBefore, groupStep, standingOf}
-use Rattle.reads.specs.Cursor.{cursorAfter, Taken, stepOfLength, readStep, readIn, positionIn}
-use Rattle.reads.specs.Cursor.{stepAnswer}
+use Rattle.reads.specs.Cursor.{flagsOf, groupBefore, groupStep, standingOf, cursorAfter}
+use Rattle.reads.specs.Cursor.{Taken, stepOfLength, readStep, readIn, positionIn, stepAnswer}
 use Rattle.reads.proofs.GroupByteLaws.{flags-there}
 use Rattle.base.proofs.ListLaws.{by-test}
-use Rattle.base.proofs.Tests.{or-neither}
-
--- ---- The bytes of the group
-
--- What was refused of the group is refused of the read.
-refused-through : {A : Type 0} (read number place group : ℕ) (faults : List Fault) (rest : Walk A)
-    → checked groups.Refused faults (groups.Found place group) ≡ groups.Refused number
-    → checked (refusedAt read) faults rest ≡ refusedAt read number
-unfolding checked
-refused-through read number place group [] rest e =
-    let z : _≡_ {A = ℕ} 0 1 = cc in absurd (omega arith)
-refused-through {A} read number place group (f ∷ faults) rest e =
-    let go : (t : Bool)
-    → cond {A = GroupStep} t (groups.Refused (f .number))
-    (checked groups.Refused faults (groups.Found place group))
-    ≡ groups.Refused number
-    → cond {A = Walk A} t (refusedAt read (f .number)) (checked (refusedAt read) faults rest)
-    ≡ refusedAt read number
-    = λ t. elim t [
-      | true ↦ λ h. let is : f .number ≡ number = cc in ap (refusedAt read) is
-      | false ↦ λ h. refused-through read number place group faults rest h
-    ] in
-    go (f .fits) e
-
--- What was taken of the group goes on.
-taken-through : {A : Type 0} (read place place′ group group′ : ℕ) (faults : List Fault)
-    (rest : Walk A)
-    → checked groups.Refused faults (groups.Found place group) ≡ groups.Found place′ group′
-    → (checked (refusedAt read) faults rest ≡ rest) × ((place ≡ place′) × (group ≡ group′))
-unfolding checked
-taken-through read place place′ group group′ [] rest e = (refl, (cc, cc))
-taken-through {A} read place place′ group group′ (f ∷ faults) rest e =
-    let go : (t : Bool)
-    → cond {A = GroupStep} t (groups.Refused (f .number))
-    (checked groups.Refused faults (groups.Found place group))
-    ≡ groups.Found place′ group′
-    → (cond {A = Walk A} t (refusedAt read (f .number)) (checked (refusedAt read) faults rest)
-    ≡ rest) × ((place ≡ place′) × (group ≡ group′))
-    = λ t. elim t [
-      | true ↦ λ h. let z : _≡_ {A = ℕ} 0 1 = cc in absurd (omega arith)
-      | false ↦ λ h. taken-through read place place′ group group′ faults rest h
-    ] in
-    go (f .fits) e
+use Rattle.reads.proofs.GroupStepLaws.{refused-through, taken-through}
 
 -- The bytes of the group, by the number that is at hand.
 pub flags-before : (source : Source) (cursor : ReadCursor) → AllBytes (source .dna)
@@ -88,44 +40,6 @@ flags-before source cursor bytes =
     by-test (beginsGroup (cursor .read))
     (λ t. rw t (sym (flags-there (source .dna) (cursor .at) bytes)))
     (λ t. rw t)
-
--- A record's place is in the section.
-fits-through : (place place′ group group′ : ℕ) (faults : List Fault)
-    → checked groups.Refused faults (groups.Found place group) ≡ groups.Found place′ group′
-    → NoneFits faults
-unfolding checked any
-fits-through place place′ group group′ [] e = refl
-fits-through place place′ group group′ (f ∷ faults) e =
-    let go : (t : Bool)
-    → cond {A = GroupStep} t (groups.Refused (f .number))
-    (checked groups.Refused faults (groups.Found place group))
-    ≡ groups.Found place′ group′
-    → t || any (λ g. g .fits) faults ≡ false
-    = λ t. elim t [
-      | true ↦ λ h. let z : _≡_ {A = ℕ} 0 1 = cc in absurd (omega arith)
-      | false ↦ λ h. fits-through place place′ group group′ faults h
-    ] in
-    go (f .fits) e
-
-place-inside : (dna ns : List ℕ) (reads read at : ℕ) → at ≤ length dna
-    → NoneFits (faultsBefore (sourceOf dna [] ns reads 0) read at)
-    → recordPlace read at ≤ length dna
-unfolding faultsBefore recordPlace groupFaults any
-place-inside dna ns reads read at inside none =
-    by-test (beginsGroup read)
-    (λ t.
-    rw t
-    (ltb-false (length dna) (at + 4) (or-neither (ltb (length dna) (at + 4)) _ (rw t at none) .0)))
-    (λ t. rw t inside)
-
-pub group-place : (dna ns : List ℕ) (reads read at group place bytes : ℕ) → at ≤ length dna
-    → groups.Found place bytes ≡ groupStep dna ns reads read at group → place ≤ length dna
-unfolding groupStep
-group-place dna ns reads read at group place bytes inside e =
-    subst (λ (p : ℕ). p ≤ length dna)
-    (taken-through {A = ℕ} read _ _ _ _ _ (refusedAt 0 0) (sym e) .1 .0)
-    (place-inside dna ns reads read at inside
-    (fits-through _ _ _ _ (faultsBefore (sourceOf dna [] ns reads 0) read at) (sym e)))
 
 -- ---- The record
 

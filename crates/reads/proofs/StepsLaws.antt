@@ -1,164 +1,146 @@
--- So many steps from a cursor on are the reads that are left, for the lengths that its size cursor
--- still gives. Assumes nothing.
-use mathlib.Core.Path.{_≡_, refl, sym, ap, ap₂, _∙_}
+-- Many steps: n and then m are n + m; how many reads they take, and where they end. Assumes nothing.
+use mathlib.Core.Path.{_≡_, refl, sym, ap, _∙_, subst}
 use Prim.Native.Nat.{ℕ, zero, suc, _+_}
-use native.Mathlib.Numerals.{add-one}
+use native.Mathlib.Nat.{add-zero, zero-add, suc-add}
 use native.Mathlib.Omega.{arith}
-use mathlib.Core.Bool.{Bool, true, false, cond}
-use mathlib.Core.List.{List, [], _∷_, map}
-use mathlib.Core.Option.{Option, none, some}
+use mathlib.Core.Bool.{Bool}
+use mathlib.Core.List.{List, [], _∷_, _++_}
+use lib.ListN.{length}
 use Rattle.base.specs.Lists.{AllBytes}
 use Rattle.base.specs.Answer.{found, andThen}
-use Rattle.dna.specs.Record.{ReadContext}
-use Rattle.dna.specs.Division.{contextOf}
 use Rattle.base.proofs.AnswerLaws.{found-same, andThen-parts}
 use Rattle.dna.specs.Walk.{Walk}
-use Rattle.lengths.specs.Cursor.{lengthStep, cursorEnded, consed, onStep, lengthsLeft}
-use Rattle.lengths.specs.declared.SizeCursor.{SizeCursor}
-use Rattle.lengths.specs.declared.LengthStep.{LengthStep}
-use Rattle.lengths.specs.declared.LengthStep.the-variants as lengths
 use Rattle.reads.specs.declared.ReadCursor.{ReadCursor}
-use Rattle.reads.specs.ReadWalk.{Source, Standing, FoundRead, readAt, standingAfter}
-use Rattle.reads.specs.ReadWalk.{contextAt, readsLeft}
-use Rattle.reads.specs.Cursor.{standingOf, cursorAfter, Taken, Arrived, stepOfLength}
-use Rattle.reads.specs.Cursor.{readStep, readSteps}
-use Rattle.reads.specs.Walked.{readSize}
-use Rattle.reads.proofs.AndThenLaws.{andThen-assoc, andThen-cong, andThen-known}
-use Rattle.reads.proofs.StepLaws.{flags-before}
-use Rattle.reads.proofs.TakenLaws.{read-stands}
+use Rattle.reads.specs.ReadWalk.{Source}
+use Rattle.reads.specs.Cursor.{SourceFits, CursorFits, firstRead, Taken, Arrived, readStep}
+use Rattle.reads.specs.Cursor.{readSteps}
+use Rattle.reads.proofs.AndThenLaws.{andThen-assoc, andThen-cong, andThen-same}
+use Rattle.reads.proofs.TakenLaws.{TakenStands, taken-stands, cursor-fits}
 
--- The reads that some steps took.
-abbrev pub readsTaken : (walk : Walk Arrived) → Walk (List FoundRead)
-readsTaken walk = andThen walk (λ arrived end. found (arrived .reads) end)
-
--- ---- The lengths that are left
-
--- None, or one and the rest.
-ended-none : (ended : Bool) (lengths′ : List ℕ) → cond ended (some []) none ≡ some lengths′
-    → [] ≡ lengths′
-ended-none true lengths′ e = cc
-ended-none false lengths′ e = let z : _≡_ {A = ℕ} 0 1 = cc in absurd (omega arith)
-
--- The first of those that are left, and the cursor after it.
-record NextLength (n : ℕ) (section : List ℕ) (step : LengthStep) (lengths′ : List ℕ)
-    : Type 0 where
-  size : ℕ
-  next : SizeCursor
-  rest : List ℕ
-  step-is : step ≡ lengths.Found size next
-  lengths-are : size ∷ rest ≡ lengths′
-  left : lengthsLeft n section next ≡ some rest
-
-next-consed : (n : ℕ) (section : List ℕ) (size : ℕ) (next : SizeCursor)
-    (rest : Option (List ℕ)) (lengths′ : List ℕ) → lengthsLeft n section next ≡ rest
-    → consed size rest ≡ some lengths′
-    → NextLength n section (lengths.Found size next) lengths′
-unfolding consed
-next-consed n section size next none lengths′ is e =
-    let z : _≡_ {A = ℕ} 0 1 = cc in absurd (omega arith)
-next-consed n section size next (some rest) lengths′ is e =
-    record { size = size; next = next; rest = rest; step-is = refl; lengths-are = cc; left = is }
-
-next-length : (n : ℕ) (section : List ℕ) (step : LengthStep) (lengths′ : List ℕ)
-    → onStep step (lengthsLeft n section) ≡ some lengths′ → NextLength n section step lengths′
-unfolding onStep
-next-length n section lengths.Refused lengths′ e =
-    let z : _≡_ {A = ℕ} 0 1 = cc in absurd (omega arith)
-next-length n section (lengths.Found size next) lengths′ e =
-    next-consed n section size next (lengthsLeft n section next) lengths′ refl e
-
--- ---- Steps
-
--- The cursor after a read stands where the walk does.
-standing-after : (source : Source) (cursor : ReadCursor) (sizes : SizeCursor) (read : FoundRead)
-    → AllBytes (source .dna)
-    → standingOf (cursorAfter source cursor sizes read)
-    ≡ standingAfter source (standingOf cursor) (cursor .at) read
-unfolding cursorAfter standingAfter
-standing-after source cursor sizes read bytes =
-    let flags = sym (flags-before source cursor bytes) in
-    let index : cursor .read + 1 ≡ suc (cursor .read) = add-one (cursor .read) in
-    λ t.
-    record {
-      read = index t;
-      position = standingOf (cursorAfter source cursor sizes read) .position;
-      flags = flags t;
-    }
-
--- The first read, then the others.
-steps-cons : (n : ℕ) (source : Source) (cursor : ReadCursor)
-    → readsTaken (readSteps (suc n) source cursor)
-    ≡ andThen (readStep source cursor) (λ taken next.
-    andThen (readsTaken (readSteps n source (taken .cursor)))
-    (λ reads end. found (taken .read ∷ reads) end))
+-- n steps, and then m, are n + m steps.
+pub steps-add : (n m : ℕ) (source : Source) (cursor : ReadCursor)
+    → readSteps (n + m) source cursor
+    ≡ andThen (readSteps n source cursor) (λ first next.
+    andThen (readSteps m source (first .cursor)) (λ second end.
+    found (record { reads = first .reads ++ second .reads; cursor = second .cursor }) end))
 unfolding readSteps andThen
-steps-cons n source cursor =
-    andThen-assoc (readStep source cursor) _ _
+steps-add zero m source cursor =
+    ap (λ (k : ℕ). readSteps k source cursor) (zero-add m)
+    ∙ sym (andThen-same (readSteps m source cursor))
+steps-add (suc n) m source cursor =
+    ap (λ (k : ℕ). readSteps k source cursor) (suc-add n m)
     ∙ andThen-cong (readStep source cursor) _ _
     (λ taken next.
-    andThen-assoc (readSteps n source (taken .cursor)) _ _
-    ∙ sym (andThen-assoc (readSteps n source (taken .cursor)) _ _))
-
--- So many steps are the reads that are left.
-pub steps-left : (n : ℕ) (source : Source) (cursor : ReadCursor) (lengths′ : List ℕ)
-    → AllBytes (source .dna) → lengthsLeft n (source .sizes) (cursor .sizes) ≡ some lengths′
-    → readsTaken (readSteps n source cursor)
-    ≡ readsLeft source (standingOf cursor) lengths′ (cursor .at)
-unfolding readSteps readsLeft lengthsLeft andThen readStep stepOfLength cursorAfter
-steps-left zero source cursor lengths′ bytes e =
-    ap (λ (l : List ℕ). readsLeft source (standingOf cursor) l (cursor .at))
-    (ended-none (cursorEnded (source .sizes) (cursor .sizes)) lengths′ e)
-steps-left (suc n) source cursor lengths′ bytes e =
-    let l : NextLength n (source .sizes) (lengthStep (source .sizes) (cursor .sizes)) lengths′ =
-    next-length n (source .sizes) (lengthStep (source .sizes) (cursor .sizes)) lengths′ e in
-    let reading : Walk FoundRead = readAt source (standingOf cursor) (l .size) (cursor .at) in
-    let others : Taken → Walk (List FoundRead) =
-    λ taken.
-    andThen (readsTaken (readSteps n source (taken .cursor)))
-    (λ reads end. found (taken .read ∷ reads) end) in
-    steps-cons n source cursor
-    ∙ ap
-    (λ (step : LengthStep). andThen (stepOfLength source cursor step) (λ taken next. others taken))
-    (l .step-is)
-    ∙ andThen-assoc reading _ _
-    ∙ andThen-known reading _ _
-    (λ read end e₁.
-    let after : ReadCursor = cursorAfter source cursor (l .next) read in
-    let there = read-stands source (standingOf cursor) (l .size) (cursor .at) read end e₁ in
+    let some′ : Walk Arrived = readSteps n source (taken .cursor) in
     ap
-    (λ (walk : Walk (List FoundRead)). andThen walk (λ reads end′. found (read ∷ reads) end′))
-    (steps-left n source after (l .rest) bytes (l .left)
-    ∙ ap₂ (λ (s : Standing) (p : ℕ). readsLeft source s (l .rest) p)
-    (standing-after source cursor (l .next) read bytes) (sym (there .1 .1))))
-    ∙ ap (λ (list : List ℕ). readsLeft source (standingOf cursor) list (cursor .at))
-    (l .lengths-are)
+    (λ (walk : Walk Arrived).
+    andThen walk (λ arrived end.
+    found (record { reads = taken .read ∷ arrived .reads; cursor = arrived .cursor }) end))
+    (steps-add n m source (taken .cursor))
+    ∙ andThen-assoc some′ _ _
+    ∙ andThen-cong some′ _ _ (λ first next′. andThen-assoc (readSteps m source (first .cursor)) _ _)
+    ∙ sym (andThen-assoc some′ _ _))
+    ∙ sym (andThen-assoc (readStep source cursor) _ _)
 
--- ---- The lengths of the reads that are found
+-- What n + m steps found was found by n steps, and then by m.
+pub record StepsSplit (n m : ℕ) (source : Source) (cursor : ReadCursor) (arrived : Arrived)
+    (end : ℕ) : Type 0 where
+  pub first : Arrived
+  pub place : ℕ
+  pub second : Arrived
+  pub first-steps : readSteps n source cursor ≡ found first place
+  pub second-steps : readSteps m source (first .cursor) ≡ found second end
+  pub reads-are : arrived .reads ≡ first .reads ++ second .reads
+  pub cursor-is : arrived .cursor ≡ second .cursor
 
-left-lengths : (source : Source) (standing : Standing) (lengths′ : List ℕ) (at : ℕ)
-    (reads : List FoundRead) (end : ℕ) → readsLeft source standing lengths′ at ≡ found reads end
-    → map readSize reads ≡ lengths′
-unfolding readsLeft readSize contextAt contextOf
-left-lengths source standing [] at reads end e = sym (ap (map readSize) (found-same e .0))
-left-lengths source standing (size ∷ lengths′) at reads end e =
-    let ih : (s : Standing) (p : ℕ) (rs : List FoundRead) (i : ℕ)
-    → readsLeft source s lengths′ p ≡ found rs i → map readSize rs ≡ lengths′
-    = λ s p rs i. left-lengths source s lengths′ p rs i in
-    andThen-parts (readAt source standing size at) _ e (λ read next e₁ e₂.
-    andThen-parts (readsLeft source (standingAfter source standing at read) lengths′ next) _ e₂
-    (λ rest last e₃ e₄.
-    let there = read-stands source standing size at read next e₁ in
-    sym (ap (map readSize) (found-same e₄ .0))
-    ∙ ap₂ (λ (n : ℕ) (l : List ℕ). n ∷ l)
-    (ap (λ (c : ReadContext). c .readLength) (there .1 .0))
-    (ih (standingAfter source standing at read) next rest last e₃)))
+pub steps-split : (n m : ℕ) (source : Source) (cursor : ReadCursor) (arrived : Arrived) (end : ℕ)
+    → readSteps (n + m) source cursor ≡ found arrived end
+    → StepsSplit n m source cursor arrived end
+steps-split n m source cursor arrived end e =
+    andThen-parts (readSteps n source cursor) _ (sym (steps-add n m source cursor) ∙ e)
+    (λ first place e₁ e₂.
+    andThen-parts (readSteps m source (first .cursor)) _ e₂ (λ second last e₃ e₄.
+    let same = found-same e₄ in
+    record {
+      first = first;
+      place = place;
+      second = second;
+      first-steps = e₁;
+      second-steps = e₃ ∙ ap (found second) (same .1);
+      reads-are = sym (ap (λ (a : Arrived). a .reads) (same .0));
+      cursor-is = sym (ap (λ (a : Arrived). a .cursor) (same .0));
+    }))
 
--- The reads that steps took have the lengths that were left.
-pub steps-lengths : (n : ℕ) (source : Source) (cursor : ReadCursor) (lengths′ : List ℕ)
-    (arrived : Arrived) (end : ℕ) → AllBytes (source .dna)
-    → lengthsLeft n (source .sizes) (cursor .sizes) ≡ some lengths′
-    → readSteps n source cursor ≡ found arrived end → map readSize (arrived .reads) ≡ lengths′
-unfolding andThen
-steps-lengths n source cursor lengths′ arrived end bytes left e =
-    left-lengths source (standingOf cursor) lengths′ (cursor .at) (arrived .reads) end
-    (sym (steps-left n source cursor lengths′ bytes left) ∙ ap readsTaken e)
+-- So many steps take so many reads, and end where the cursor then stands.
+pub record StepsCounted (n : ℕ) (cursor : ReadCursor) (arrived : Arrived) (end : ℕ) : Type 0 where
+  pub count : length (arrived .reads) ≡ n
+  pub index : arrived .cursor .read ≡ cursor .read + n
+  pub end-is : end ≡ arrived .cursor .at
+
+pub steps-counted : (n : ℕ) (source : Source) (cursor : ReadCursor) (arrived : Arrived) (end : ℕ)
+    → readSteps n source cursor ≡ found arrived end → StepsCounted n cursor arrived end
+unfolding readSteps
+steps-counted zero source cursor arrived end e =
+    let same = found-same e in
+    subst (λ (a : Arrived). StepsCounted 0 cursor a end) (same .0)
+    (record { count = refl; index = sym (add-zero (cursor .read)); end-is = sym (same .1) })
+steps-counted (suc n) source cursor arrived end e =
+    let ih : (c : ReadCursor) (a : Arrived) (i : ℕ) → readSteps n source c ≡ found a i
+    → StepsCounted n c a i
+    = λ c a i. steps-counted n source c a i in
+    andThen-parts (readStep source cursor) _ e (λ taken next e₁ e₂.
+    andThen-parts (readSteps n source (taken .cursor)) _ e₂ (λ rest last e₃ e₄.
+    let same = found-same e₄ in
+    let counted : StepsCounted n (taken .cursor) rest last = ih (taken .cursor) rest last e₃ in
+    let stands : TakenStands source cursor taken next = taken-stands source cursor taken next e₁ in
+    subst (λ (a : Arrived). StepsCounted (suc n) cursor a end) (same .0)
+    (record {
+      count = ap suc (counted .count);
+      index = omega (arith, counted .index, stands .read-is);
+      end-is = sym (same .1) ∙ counted .end-is;
+    })))
+
+-- A cursor that fits fits after some steps.
+pub steps-fit : (n : ℕ) (source : Source) (cursor : ReadCursor) (arrived : Arrived) (end : ℕ)
+    → AllBytes (source .dna) → SourceFits source → CursorFits (source .dna) cursor
+    → readSteps n source cursor ≡ found arrived end → CursorFits (source .dna) (arrived .cursor)
+unfolding readSteps
+steps-fit zero source cursor arrived end bytes fits before e =
+    subst (λ (a : Arrived). CursorFits (source .dna) (a .cursor)) (found-same e .0) before
+steps-fit (suc n) source cursor arrived end bytes fits before e =
+    let ih : (c : ReadCursor) (a : Arrived) (i : ℕ) → CursorFits (source .dna) c
+    → readSteps n source c ≡ found a i → CursorFits (source .dna) (a .cursor)
+    = λ c a i. steps-fit n source c a i bytes fits in
+    andThen-parts (readStep source cursor) _ e (λ taken next e₁ e₂.
+    andThen-parts (readSteps n source (taken .cursor)) _ e₂ (λ rest last e₃ e₄.
+    subst (λ (a : Arrived). CursorFits (source .dna) (a .cursor)) (found-same e₄ .0)
+    (ih (taken .cursor) rest last
+    (cursor-fits source cursor taken next bytes fits before e₁) e₃)))
+
+pub first-fits : (dna : List ℕ) (fixed : Bool) (each : ℕ) → CursorFits dna (firstRead fixed each)
+unfolding firstRead
+first-fits dna fixed each = record { inside = omega arith; near = omega arith }
+
+-- One step.
+pub one-step : (source : Source) (cursor : ReadCursor) (one : Arrived) (end : ℕ)
+    → readSteps 1 source cursor ≡ found one end
+    → (taken : Taken) × ((readStep source cursor ≡ found taken end)
+    × (one ≡ record { reads = taken .read ∷ []; cursor = taken .cursor }))
+unfolding readSteps
+one-step source cursor one end e =
+    andThen-parts (readStep source cursor) _ e (λ taken next e₁ e₂.
+    andThen-parts (readSteps 0 source (taken .cursor)) _ e₂ (λ rest last e₃ e₄.
+    let stop = found-same e₃ in
+    let same = found-same e₄ in
+    let stands : TakenStands source cursor taken next = taken-stands source cursor taken next e₁ in
+    let place : next ≡ end = omega (arith, stands .at-is, stands .end-is, stop .1, same .1) in (
+      taken,
+      (
+        e₁ ∙ ap (found taken) place,
+        sym
+            (ap
+            (λ (a : Arrived). record { reads = taken .read ∷ a .reads; cursor = a .cursor })
+            (stop .0)
+            ∙ same .0),
+      ),
+    )))

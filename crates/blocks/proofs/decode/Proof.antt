@@ -9,9 +9,10 @@ use Rattle.base.specs.Lists.{AllBytes}
 use Rattle.base.proofs.Tests.{or-neither}
 use Rattle.format.specs.Joined.{blockReads}
 use Rattle.format.specs.Answered.{outcomeOfBlock}
-use Rattle.blocks.proofs.DecodeLaws.{Judged, block-judged, block-parts, counts-are}
-use Rattle.blocks.proofs.DecodeLaws.{letters-count, decode-refused, decode-no-room}
 use borrow.Author.Needs.{needs}
+use Rattle.blocks.proofs.AcceptedLaws.{Judged, block-judged, block-parts, counts-are}
+use Rattle.blocks.proofs.AcceptedLaws.{letters-count}
+use Rattle.blocks.proofs.DecodeLaws.{decode-refused, decode-no-room}
 use Rattle.blocks.proofs.decode.Statement.{statement}
 use Rattle.blocks.proofs.decode.Tie as tie
 

@@ -2,9 +2,9 @@
 use mathlib.Core.Path.{sym, _∙_}
 use native.Mathlib.Omega.{arith}
 use Rattle.base.specs.Lists.{AllBytes}
-use Rattle.blocks.proofs.DecodeLaws.{BlockParts, block-parts, all-found, block-writable}
-use Rattle.blocks.proofs.DecodeLaws.{decode-not-refused, decode-written}
 use borrow.Author.Needs.{needs}
+use Rattle.blocks.proofs.AcceptedLaws.{BlockParts, block-parts, all-found, block-writable}
+use Rattle.blocks.proofs.DecodeLaws.{decode-not-refused, decode-written}
 use Rattle.blocks.proofs.write_block.Statement.{statement}
 use Rattle.blocks.proofs.write_block.Tie as tie
 

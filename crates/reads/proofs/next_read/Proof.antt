@@ -16,8 +16,8 @@ use Rattle.reads.specs.ReadWalk.{Source}
 use Rattle.reads.specs.Cursor.{sourceOf, flagsOf, bitsAt, groupStep}
 use Rattle.reads.specs.declared.ReadStep.the-variants as steps
 use Rattle.reads.specs.declared.groups.GroupStep.the-variants as groups
-use Rattle.reads.proofs.StepLaws.{group-place, step-no-length, step-no-group, step-no-record}
-use Rattle.reads.proofs.StepLaws.{step-found}
+use Rattle.reads.proofs.GroupStepLaws.{group-place}
+use Rattle.reads.proofs.StepLaws.{step-no-length, step-no-group, step-no-record, step-found}
 use Rattle.reads.proofs.next_read.Statement.{statement}
 use Rattle.reads.proofs.next_read.Tie as tie
 use Rattle.reads.proofs.next_read.Reads as reads

@@ -8,8 +8,9 @@ use Rattle.base.specs.Lists.{AllBytes}
 use Rattle.reads.specs.ReadWalk.{Source}
 use Rattle.reads.specs.Cursor.{sourceOf}
 use Rattle.reads.proofs.TakenLaws.{StepTook, step-took, step-refused}
-use Rattle.reads.proofs.WalkingLaws.{Walking, walking-first, turn-printable, turn-room}
-use Rattle.reads.proofs.WalkingLaws.{turn-counts, turn-next, walking-refused, walking-end}
+use Rattle.reads.proofs.WalkingLaws.{Walking, walking-first}
+use Rattle.reads.proofs.WalkingTurns.{turn-printable, turn-room, turn-counts, turn-next}
+use Rattle.reads.proofs.WalkingTurns.{walking-refused, walking-end}
 use Rattle.reads.proofs.walk.Statement.{statement}
 use Rattle.reads.proofs.walk.Tie as tie
 use Rattle.reads.proofs.walk.Reads as reads
