@@ -137,7 +137,8 @@ module _ (bases : ℕ) (reference input : List ℕ) (divided : BlockDivision) (b
 
       pub decode-written : (cursor : ReadCursor) (last : Read) (counts : Counts)
           (answered : Walked) (letters′ ends′ : List ℕ) → answered ≡ walks.At cursor last counts
-          → WalkDone (blockWalk bases input) true true reference answered letters letters′ ends ends′
+          → WalkDone (blockWalk bases input) true true reference answered letters letters′ ends
+          ends′
           → Decodes bases reference input (outcomes.Accepted bytes counts) letters letters′ ends
           ends′
       decode-written cursor last counts answered letters′ ends′ is done =

@@ -57,7 +57,9 @@ module _ (differences : Bool) (bases : ℕ) (reference input : List ℕ) where
       → outcomes.Refused 1 0 ≡ judged differences bases reference input
   unfolding answerOf
   judge-reference wrong =
-      sym (ap (answerOf differences reference bases) (reference-refused bases reference input wrong))
+      sym
+      (ap (answerOf differences reference bases)
+      (reference-refused bases reference input wrong))
 
   module _ (fits : ReferenceFits bases reference) where
     -- 2 to 8.
@@ -178,7 +180,8 @@ module _ (differences : Bool) (bases : ℕ) (reference input : List ℕ)
         (section-bytes input sizeNumber bytes) long differences reference number read e)))
 
     module _ (cursor : ReadCursor) (last : Read) (counts : Counts)
-        (walked : walks.At cursor last counts ≡ walkAnswer differences reference (blockWalk bases input)) where
+        (walked : walks.At cursor last counts
+        ≡ walkAnswer differences reference (blockWalk bases input)) where
       pub section-walked : SectionWalked (blockSource bases input) (isFixed input)
           (eachLength input) (right .lengths) differences reference cursor counts
       section-walked =

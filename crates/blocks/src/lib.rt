@@ -161,7 +161,7 @@ fn judge_reads(bases: u64, reference: &[u8], input: &[u8], count: bool) -> Block
     match walk_unwritten(bases, reference, input, count) {
         Walked::Refused(number, read) => BlockOutcome::Refused(number, read),
         Walked::At(cursor, _, counts) => {
-            if cursor.at < section_length(input, 0) {
+            if cursor.at < section_length(input, DNA_SECTION as usize) {
                 return BlockOutcome::Refused(DNA_TRAILING, 0);
             }
             BlockOutcome::Accepted(block_length(input) as u64, counts)
@@ -174,7 +174,7 @@ fn n_section_wrong(input: &[u8]) -> bool
     requires { ⌜ headerRefused (now input) ≡ false ⌝ }
     ensures { λ r. ⌜ r ≡ nSectionWrong (now (input .entry)) ⌝ }
 {
-    section_length(input, 5) != (size32(read_count(input)) + 7) / 8
+    section_length(input, N_SECTION as usize) != (size32(read_count(input)) + 7) / 8
 }
 
 // Walks all reads of a block and writes nothing.

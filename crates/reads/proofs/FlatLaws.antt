@@ -31,8 +31,8 @@ module _ (source : Source) where
       ≡ checked (refusedAt (standing .read))
       (groupFaults (min 8 (source .reads - standing .read))
       (getD (source .ns) (standing .read / 8) 0) (source .dna) at)
-      (RecordThen source (flagsAt (source .dna) at) (standing .read) 0 (standing .position) readLength
-      lengths (at + 4))
+      (RecordThen source (flagsAt (source .dna) at) (standing .read) 0 (standing .position)
+      readLength lengths (at + 4))
   unfolding readAt faultsBefore flagsBefore recordPlace contextAt standingAfter andThen
   left-first standing readLength lengths at begins =
       left-cons source standing readLength lengths at

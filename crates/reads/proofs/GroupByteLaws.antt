@@ -63,7 +63,8 @@ shifted-low x k h = sym (low-bit x k h)
 bit-or-rest : (digit′ rest unit : ℕ) → digit′ < 2 → 0 < unit
     → eqb digit′ 1 || not (eqb rest 0) ≡ not (eqb (digit′ * unit + rest) 0)
 bit-or-rest zero rest unit small some =
-    let e : rest ≡ 0 * unit + rest = sym (ap (λ (x : ℕ). x + rest) (zero-mul unit) ∙ zero-add rest) in
+    let e : rest ≡ 0 * unit + rest =
+    sym (ap (λ (x : ℕ). x + rest) (zero-mul unit) ∙ zero-add rest) in
     ap (λ (x : ℕ). not (eqb x 0)) e
 bit-or-rest (suc zero) rest unit small some =
     sym (ap not (ne-eqb (1 * unit + rest) 0 (λ e. omega (arith, one-mul unit))))
@@ -149,7 +150,8 @@ upper-byte low high small few =
     ap (λ (x : ℕ). x % 256) e ∙ omega arith
 
 -- The bytes of the number that stands at a place are those that stand there.
-pub flags-there : (list : List ℕ) (at : ℕ) → AllBytes list → flagsOf (le 4 list at) ≡ flagsAt list at
+pub flags-there : (list : List ℕ) (at : ℕ) → AllBytes list
+    → flagsOf (le 4 list at) ≡ flagsAt list at
 unfolding flagsOf flagsAt le
 flags-there list at bytes =
     let b : ℕ → ℕ = λ k. getD list k 0 in

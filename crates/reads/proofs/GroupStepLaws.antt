@@ -80,7 +80,8 @@ module _ (dna ns : List ℕ) (reads read at group : ℕ) where
 -- ---- What goes on from it
 
 -- What was refused of the group is refused of the read.
-pub refused-through : {A : Type 0} (read number place group : ℕ) (faults : List Fault) (rest : Walk A)
+pub refused-through : {A : Type 0} (read number place group : ℕ) (faults : List Fault)
+    (rest : Walk A)
     → checked groups.Refused faults (groups.Found place group) ≡ groups.Refused number
     → checked (refusedAt read) faults rest ≡ refusedAt read number
 unfolding checked

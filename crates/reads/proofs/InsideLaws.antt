@@ -1,5 +1,5 @@
--- The reads that are left, from inside a group on: the records of its reads, then the others. Assumes
--- nothing.
+-- The reads that are left, from inside a group on: the records of its reads, then the others.
+-- Assumes nothing.
 use mathlib.Core.Path.{_≡_, sym, ap, _∙_}
 use Prim.Native.Nat.{ℕ, suc, _+_, _%_, _≤_, _<_}
 use native.Mathlib.Nat.{add-zero}
@@ -87,8 +87,8 @@ module _ (source : Source) where
       _ _)
 
   -- The reads of a group from `place` on, by the walk over groups, then the others.
-  abbrev pub GroupThen : (flags : GroupFlags) (read place position : ℕ) (ours rest : List ℕ) (at : ℕ)
-      → Walk (List Read)
+  abbrev pub GroupThen : (flags : GroupFlags) (read place position : ℕ) (ours rest : List ℕ)
+      (at : ℕ) → Walk (List Read)
   GroupThen flags read place position ours rest at =
       andThen (readsAt (source .bases) flags read place position ours (source .dna) at)
       (λ pieces next.

@@ -133,14 +133,15 @@ module _ (source : Source) (cursor : ReadCursor) where
           contextOf (source .bases) (flagsOf group) (cursor .read % 8) (cursor .position) size
 
       through : {A : Type 0} (rest : Walk A)
-          → (checked (refusedAt (cursor .read)) (faultsBefore source (cursor .read) (cursor .at)) rest
+          → (checked (refusedAt (cursor .read)) (faultsBefore source (cursor .read) (cursor .at))
+          rest
           ≡ rest)
           × ((recordPlace (cursor .read) (cursor .at) ≡ at)
           × (groupBefore (source .dna) (cursor .read) (cursor .at) (cursor .group) ≡ group))
       unfolding groupStep faultsBefore
       through rest =
-          taken-through (cursor .read) _ _ _ _ (faultsBefore source (cursor .read) (cursor .at)) rest
-          (sym grouped)
+          taken-through (cursor .read) _ _ _ _ (faultsBefore source (cursor .read) (cursor .at))
+          rest (sym grouped)
 
       abbrev nothing : Walk FoundRead
       nothing = refusedAt 0 0
@@ -169,7 +170,8 @@ module _ (source : Source) (cursor : ReadCursor) where
           context-is (through nothing .1 .0)
 
       -- The record is refused.
-      pub step-no-record : (number : ℕ) → answers.Refused number ≡ decodedAt context (source .dna) at
+      pub step-no-record : (number : ℕ)
+          → answers.Refused number ≡ decodedAt context (source .dna) at
           → steps.Refused number (cursor .read) ≡ stepAnswer (readStep source cursor)
       unfolding andThen refusedAs stepAnswer
       step-no-record number e =

@@ -1,4 +1,5 @@
--- Many steps: n and then m are n + m; how many reads they take, and where they end. Assumes nothing.
+-- Many steps: n and then m are n + m; how many reads they take, and where they end. Assumes
+-- nothing.
 use mathlib.Core.Path.{_≡_, refl, sym, ap, _∙_, subst}
 use Prim.Native.Nat.{ℕ, zero, suc, _+_}
 use native.Mathlib.Nat.{add-zero, zero-add, suc-add}

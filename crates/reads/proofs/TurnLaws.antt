@@ -124,7 +124,8 @@ walked-first differences reference counts last (found arrived next) none first =
     let later : Counted = readsCounts differences reference (arrived .reads) in
     sym
     (ap₂
-    (λ (c : Counted) (r : Read). walks.At (arrived .cursor) (lastOf r (arrived .reads)) (countsOf c))
+    (λ (c : Counted) (r : Read).
+    walks.At (arrived .cursor) (lastOf r (arrived .reads)) (countsOf c))
     (ap (λ (c : Counts). plus (countedOf c) later) none ∙ none-plus later) first)
 walked-first differences reference counts last (refused why) none first = refl
 
@@ -154,7 +155,8 @@ module _ (differences : Bool) (reference : List ℕ) (counts : Counts) (last : R
     (source : Source) (cursor : ReadCursor) (n : ℕ) where
   pub walked-turn : (counts′ : Counts) (last′ : Read) (next : ReadCursor) (taken : Taken)
       {end : ℕ} → 0 < n → readStep source cursor ≡ found taken end
-      → counts′ ≡ countsOf (plus (countedOf counts) (readCounts differences reference (taken .read)))
+      → counts′
+      ≡ countsOf (plus (countedOf counts) (readCounts differences reference (taken .read)))
       → last′ ≡ readIn (taken .read) → next ≡ taken .cursor
       → walkedOn differences reference counts last (readSteps n source cursor)
       ≡ walkedOn differences reference counts′ last′ (readSteps (n - 1) source next)

@@ -129,7 +129,10 @@ walking-first source reference start steps count write letters ends last counts 
       answer =
           walked-first (write || count) reference counts last (readSteps steps source start) none
           first
-          ∙ ap (λ (n : ℕ). walkedOn (write || count) reference counts last (readSteps n source start)) z;
+          ∙ ap
+          (λ (n : ℕ).
+          walkedOn (write || count) reference counts last (readSteps n source start))
+          z;
       room = λ yes′.
           subst
           (λ (n : ℕ). RoomLeft (readSteps n source start) (counts .letters) (length letters)) z

@@ -1,5 +1,5 @@
--- A walk after some turns: what one more turn keeps, and what the walk answers and leaves at its end.
--- Assumes nothing.
+-- A walk after some turns: what one more turn keeps, and what the walk answers and leaves at its
+-- end. Assumes nothing.
 use mathlib.Core.Path.{_≡_, sym, ap, _∙_, subst}
 use Prim.Native.Nat.{ℕ, _+_, _-_, _^_, _≤_, _<_}
 use native.Mathlib.Omega.{arith}
@@ -135,7 +135,8 @@ module _ (source : Source) (reference : List ℕ) (start : ReadCursor) (steps : 
         letters-kept : length letters′ ≡ length letters
         letters-kept =
             kept-length write letters letters′ from (lettersIn reference (source .dna) read)
-            (λ yes′. omega (arith, turn-room from from-is yes′ .letters-fit, part-length)) letters-are
+            (λ yes′. omega (arith, turn-room from from-is yes′ .letters-fit, part-length))
+            letters-are
 
         ends-kept : length ends′ ≡ length ends
         ends-kept =
@@ -195,7 +196,8 @@ module _ (source : Source) (reference : List ℕ) (start : ReadCursor) (steps : 
                   ∙ walked-turn (write || count) reference counts last source cursor (steps - turns)
                   counts′ read next (took .taken) left (took .stepped)
                   (added
-                  ∙ ap (λ (c : Counts). countsOf (plus (countedOf counts) (countedOf c))) visited-is)
+                  ∙ ap (λ (c : Counts). countsOf (plus (countedOf counts) (countedOf c)))
+                  visited-is)
                   (took .read-is) (took .next-is)
                   ∙ ap
                   (λ (n : ℕ).

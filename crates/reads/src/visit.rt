@@ -39,7 +39,8 @@ pub fn visit_read(
     requires { ⌜ (write ≡ true
         → TablesMade (now «forward_table») (now «reverse_table») (now «pair_table»)
         × RoomAt (length (now letters)) (length (now ends)) from index (read .length)) ⌝ }
-    ensures { λ r. ⌜ (r ≡ countsIn (write || count) (now (reference .entry)) (now (dna .entry)) read)
+    ensures { λ r. ⌜ (r
+        ≡ countsIn (write || count) (now (reference .entry)) (now (dna .entry)) read)
         × (now (letters .exit)
         ≡ cond write (pasted (now (letters .entry)) from
         (lettersIn (now (reference .entry)) (now (dna .entry)) read)) (now (letters .entry)))

@@ -96,8 +96,18 @@ write-block-requires c κs =
     record {
       divided = accepted told .divided;
       answer = accepted told .answer;
-      letters-fit = omega (arith, ltb-false (length (a .letters .now)) (counts .letters) (room .0), sizes told .0);
-      ends-fit = omega (arith, ltb-false (length (a .ends .now)) (counts .reads) (room .1), sizes told .1);
+      letters-fit =
+          omega (
+            arith,
+            ltb-false (length (a .letters .now)) (counts .letters) (room .0),
+            sizes told .0,
+          );
+      ends-fit =
+          omega (
+            arith,
+            ltb-false (length (a .ends .now)) (counts .reads) (room .1),
+            sizes told .1,
+          );
     }
 
 same-length : tie.Need-same-length

@@ -29,7 +29,8 @@ returns c =
     let start = c .before .before .before .before in
     let input = start .args .input .now in
     ap₂ (λ (size reads : ℕ). not (eqb size ((reads + 7) / 8)))
-    (c .before .before .section-length .ensures .0 ∙ sym (length-sectionOf input nNumber (start .pre)))
+    (c .before .before .section-length .ensures .0
+    ∙ sym (length-sectionOf input nNumber (start .pre)))
     (c .size32 .ensures .0 ∙ c .before .read-count .ensures .0)
 
 pub n-section-wrong-spec : {M : Type 1} → statement M

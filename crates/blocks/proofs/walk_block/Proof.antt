@@ -1,4 +1,5 @@
--- `blocks::walk_block` meets its contract: it reads from the sections of the block. Assumes nothing.
+-- `blocks::walk_block` meets its contract: it reads from the sections of the block. Assumes
+-- nothing.
 use mathlib.Core.Path.{_≡_, ap, ap₂, _∙_}
 use Prim.Native.Nat.{_≤_}
 use lib.ListN.{length}
@@ -28,7 +29,8 @@ source-is : (c : tie.After-size32)
     sourceOf (c .before .before .before .before .section .result .now)
     (c .before .before .before .section2 .result .now) (c .before .before .section3 .result .now)
     (c .size32 .result) (a .bases))
-    ≡ blockSource (start (c .before .before) .args .bases) (start (c .before .before) .args .input .now)
+    ≡ blockSource (start (c .before .before) .args .bases)
+    (start (c .before .before) .args .input .now)
 source-is c =
     let third = c .before .before in
     let a = start third .args in

@@ -1,4 +1,5 @@
--- `blocks::write_block` meets its contract: the walk is not refused, and writes all. Assumes nothing.
+-- `blocks::write_block` meets its contract: the walk is not refused, and writes all. Assumes
+-- nothing.
 use mathlib.Core.Path.{sym, _∙_}
 use native.Mathlib.Omega.{arith}
 use Rattle.base.specs.Lists.{AllBytes}

@@ -43,7 +43,8 @@ long : (c : tie.After-size32)
     ≡ lengthStep (start c .args .sizes .now) (start c .args .cursor .sizes)
 long c =
     let next = c .before .before .before .before in
-    ap (λ (n : ℕ). lengths.Found n (c .before .before .length .given .0 .1 .0)) (c .size32 .ensures .0)
+    ap (λ (n : ℕ). lengths.Found n (c .before .before .length .given .0 .1 .0))
+    (c .size32 .ensures .0)
     ∙ sym (c .before .before .length .given .1)
     ∙ next .next-length .ensures
 
@@ -177,7 +178,8 @@ returns-3 c =
     let made = c .before .before .before .before in
     let told = made .before .before in
     let size = sized told in
-    ap (λ (n : ℕ). steps.Refused (c .before .before .decoded .given .0 .0) n) (c .wide642 .ensures .0)
+    ap (λ (n : ℕ). steps.Refused (c .before .before .decoded .given .0 .0) n)
+    (c .wide642 .ensures .0)
     ∙ step-no-record (source size) (start size .args .cursor) (bytes size) _ _ (long size) _ _
     (grouped told) _ (sym (c .before .before .decoded .given .1) ∙ decoded made)
 

@@ -1,5 +1,6 @@
 -- `reads::walk` meets its contract. The loop's invariant: what is answered and left from the cursor
--- on, with what was counted and written, is what the whole walk answers and leaves. Assumes nothing.
+-- on, with what was counted and written, is what the whole walk answers and leaves. Assumes
+-- nothing.
 use mathlib.Core.Path.{sym, _∙_}
 use Prim.Native.Nat.{_-_, _^_, _<_}
 use native.Mathlib.Omega.{arith}

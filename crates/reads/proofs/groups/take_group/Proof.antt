@@ -16,13 +16,16 @@ bytes : (c : tie.After-shared-slice-known) → AllBytes (c .before .args .dna .n
 bytes c = record { each = λ k h. omega (arith, c .shared-slice-known .given k) }
 
 -- The index that was widened.
-index : (c : tie.After-size32) → c .size32 .result ≡ c .before .before .before .before .before .before .args .read
+index : (c : tie.After-size32)
+    → c .size32 .result ≡ c .before .before .before .before .before .before .args .read
 index c = c .size32 .ensures .0
 
 returns : tie.Need-returns
 returns c =
     let a = c .before .before .before .args in
-    sym (group-inside (a .dna .now) (a .ns .now) (a .reads) (a .read) (a .at) (a .group) (c .if1 .taken))
+    sym
+    (group-inside (a .dna .now) (a .ns .now) (a .reads) (a .read) (a .at) (a .group)
+    (c .if1 .taken))
 
 sub-if2 : tie.Need-sub-if2
 sub-if2 c = search needs
