@@ -27,7 +27,6 @@ use reference::reference_size_wrong;
 use reference::word_table;
 ghost use mathlib.Core.Path.{_≡_};
 ghost use mathlib.Core.Bool.{true, false, _||_};
-ghost use Prim.Native.Nat.{_≤_};
 ghost use lib.ListN.{length};
 ghost use lib.Dec.{ltb};
 ghost use Rattle.dna.specs.Reference.{ReferenceFits};
@@ -37,7 +36,6 @@ ghost use Rattle.format.specs.Answered.{outcomeOfBlock};
 ghost use Rattle.format.specs.BlockAnswer.{
   headerRefused,
   lengthsAnswer,
-  blockAnswer,
   validatedBlock,
   decoded,
   decodedLetters,

@@ -11,8 +11,7 @@ ghost use mathlib.Core.Path.{_≡_};
 ghost use Prim.Native.Nat.{_%_, _≤_, _<_, min};
 ghost use lib.ListN.{length};
 ghost use Rattle.base.specs.Groups.{groupCount};
-ghost use Rattle.dna.specs.Division.{groupBitStray, contextOf};
-ghost use Rattle.records.specs.Decoded.{contextFrom};
+ghost use Rattle.dna.specs.Division.{groupBitStray};
 ghost use Rattle.reads.specs.Cursor.{flagsOf, bitsAt, groupStep};
 
 // Where a read's record stands, and the bytes of its group.
