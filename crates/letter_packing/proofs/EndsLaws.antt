@@ -15,7 +15,8 @@ use Rattle.dna.specs.Record.{packedBytes}
 use Rattle.format.specs.RuleRecord.{padded}
 use Rattle.letter_packing.specs.Read.{codesIn, baseIn, endCodes}
 use Rattle.letter_packing.proofs.ReadLaws.{length-ends, ends-left, ends-right}
-use Rattle.letter_packing.proofs.PieceLaws.{build-part, filled-part, getD-pack, packed-padded}
+use Rattle.letter_packing.proofs.PieceLaws.{build-part, filled-part, getD-pack}
+use Rattle.letter_packing.proofs.PieceLaws.{packed-padded}
 
 module _ (letters : List ℕ) (from to left right : ℕ) (order : from ≤ to)
     (inside : to ≤ length letters) (fits : left + right ≤ to - from) where
@@ -91,7 +92,8 @@ module _ (letters : List ℕ) (from to left right : ℕ) (order : from ≤ to)
   -- There are none.
   pub right-none : (out : List ℕ) (place : ℕ) → (left + right) / 4 ≤ packedLength 4 left
       → out
-      ≡ pasted out place (part packed (packedLength 4 left) ((left + right) / 4 - packedLength 4 left))
+      ≡ pasted out place (part packed (packedLength 4 left)
+      ((left + right) / 4 - packedLength 4 left))
   right-none out place none =
       let zero′ : (left + right) / 4 - packedLength 4 left ≡ 0 = omega arith in
       sym (pasted-nil out place)
@@ -116,7 +118,8 @@ module _ (letters : List ℕ) (from to left right : ℕ) (order : from ≤ to)
       let next : ℕ = packedLength 4 left in
       let first : Filled old one at packed (left / 4) =
       filled-part one at 0 (left / 4) (left / 4) (filled-none old at packed) (omega arith)
-      (e₁ ∙ ap (pasted old at) left-bytes) (omega arith) (omega arith) (omega arith) (omega arith) in
+      (e₁ ∙ ap (pasted old at) left-bytes) (omega arith) (omega arith) (omega arith)
+      (omega arith) in
       let second : Filled old two at packed next =
       filled-part two (at + left / 4) (left / 4) (next - left / 4) next first (omega arith) e₂
       (omega arith) (omega arith) (omega arith) (omega arith) in

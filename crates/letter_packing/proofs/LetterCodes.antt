@@ -57,12 +57,14 @@ pub base-bits : (letter : ℕ) → member letter alphabet ≡ true
     → bitsBase letter ≡ withoutN (codeOfLetter letter)
 unfolding codeOfLetter indexOf withoutN
 base-bits =
-    known-cases (λ letter. bitsBase letter ≡ withoutN (codeOfLetter letter)) refl refl refl refl refl
+    known-cases (λ letter. bitsBase letter ≡ withoutN (codeOfLetter letter)) refl refl refl refl
+    refl
 
 pub code-small : (letter : ℕ) → member letter alphabet ≡ true → codeOfLetter letter < 5
 unfolding codeOfLetter indexOf
 code-small =
-    known-cases (λ letter. codeOfLetter letter < 5) (omega arith) (omega arith) (omega arith) (omega arith) (omega arith)
+    known-cases (λ letter. codeOfLetter letter < 5) (omega arith) (omega arith) (omega arith)
+    (omega arith) (omega arith)
 
 -- ---- A word of letters
 
@@ -90,14 +92,18 @@ base-step a rest mask small =
     let one : r % 4 ≡ a / 2 % 4 = omega arith in
     let two : s % 4 ≡ a / 4 % 4 = omega arith in
     let byte : bitAnd (bitXor r s) 3 ≡ bitsBase a =
-    and-mask (bitXor r s) 2 ∙ xor-mod r s 2 ∙ ap₂ bitXor one two ∙ sym (xor-mod (a / 2) (a / 4) 2) in
-    ap₂ (λ (x y : ℕ). bitAnd x y) (ap₂ bitXor (half a rest) (quarter a rest) ∙ xor-block 8 (rest / 2) (rest / 4) r s low low′) over
-    ∙ and-block 8 (bitXor (rest / 2) (rest / 4)) mask (bitXor r s) 3 (xor-lt 8 r s low low′) (omega arith)
+    and-mask (bitXor r s) 2 ∙ xor-mod r s 2 ∙ ap₂ bitXor one two ∙ sym
+    (xor-mod (a / 2) (a / 4) 2) in
+    ap₂ (λ (x y : ℕ). bitAnd x y) (ap₂ bitXor (half a rest) (quarter a rest) ∙ xor-block 8
+    (rest / 2) (rest / 4) r s low low′) over
+    ∙ and-block 8 (bitXor (rest / 2) (rest / 4)) mask (bitXor r s) 3 (xor-lt 8 r s low low′)
+    (omega arith)
     ∙ ap (λ (x : ℕ). bitAnd (bitXor (rest / 2) (rest / 4)) mask * 2 ^ 8 + x) byte
     ∙ omega arith
 
 code-step : (a rest three seven : ℕ) → a < 256
-    → bitAnd (bitXor ((a + 256 * rest) / 2) (bitAnd ((a + 256 * rest) / 4) (3 + 256 * three))) (7 + 256 * seven)
+    → bitAnd (bitXor ((a + 256 * rest) / 2) (bitAnd ((a + 256 * rest) / 4) (3 + 256 * three)))
+    (7 + 256 * seven)
     ≡ bitsCode a + 256 * bitAnd (bitXor (rest / 2) (bitAnd (rest / 4) three)) seven
 code-step a rest three seven small =
     let r : ℕ = a / 2 + 128 * (rest % 2) in
@@ -110,7 +116,8 @@ code-step a rest three seven small =
     let over′ : 7 + 256 * seven ≡ seven * 2 ^ 8 + 7 = omega arith in
     let one : r % 8 ≡ a / 2 % 8 = omega arith in
     let two : s % 4 ≡ t = omega arith in
-    let kept : bitAnd ((a + 256 * rest) / 4) (3 + 256 * three) ≡ bitAnd (rest / 4) three * 2 ^ 8 + t =
+    let kept : bitAnd ((a + 256 * rest) / 4) (3 + 256 * three) ≡ bitAnd (rest / 4) three * 2 ^ 8 + t
+    =
     ap₂ bitAnd (quarter a rest) over
     ∙ and-block 8 (rest / 4) three s 3 low′ (omega arith)
     ∙ ap (λ (x : ℕ). bitAnd (rest / 4) three * 2 ^ 8 + x) (and-mask s 2 ∙ two) in
@@ -118,7 +125,8 @@ code-step a rest three seven small =
     and-mask (bitXor r t) 3 ∙ xor-mod r t 3 ∙ ap (λ (x : ℕ). bitXor x (t % 8)) one
     ∙ sym (xor-mod (a / 2) t 3) in
     let front : ℕ = bitXor (rest / 2) (bitAnd (rest / 4) three) in
-    ap₂ bitAnd (ap₂ bitXor (half a rest) kept ∙ xor-block 8 (rest / 2) (bitAnd (rest / 4) three) r t low low″) over′
+    ap₂ bitAnd (ap₂ bitXor (half a rest) kept ∙ xor-block 8 (rest / 2) (bitAnd (rest / 4) three) r t
+    low low″) over′
     ∙ and-block 8 front seven (bitXor r t) 7 (xor-lt 8 r t low low″) (omega arith)
     ∙ ap (λ (x : ℕ). bitAnd front seven * 2 ^ 8 + x) byte
     ∙ omega arith
@@ -130,18 +138,22 @@ pub word-bases : (width : ℕ) (list : List ℕ) (i : ℕ) → AllBytes list
 unfolding le
 word-bases zero list i bytes = refl
 word-bases (suc width) list i bytes =
-    base-step (getD list i 0) (le width list (i + 1)) (everyByte 3 width) (below-at list (omega arith) bytes i)
-    ∙ ap₂ (λ (x y : ℕ). x + 256 * y) (sym (List·getD-map bitsBase list i 0)) (word-bases width list (i + 1) bytes)
+    base-step (getD list i 0) (le width list (i + 1)) (everyByte 3 width)
+    (below-at list (omega arith) bytes i)
+    ∙ ap₂ (λ (x y : ℕ). x + 256 * y) (sym (List·getD-map bitsBase list i 0))
+    (word-bases width list (i + 1) bytes)
 
 pub word-codes : (width : ℕ) (list : List ℕ) (i : ℕ) → AllBytes list
-    → bitAnd (bitXor (le width list i / 2) (bitAnd (le width list i / 4) (everyByte 3 width))) (everyByte 7 width)
+    → bitAnd (bitXor (le width list i / 2) (bitAnd (le width list i / 4) (everyByte 3 width)))
+    (everyByte 7 width)
     ≡ le width (map bitsCode list) i
 unfolding le
 word-codes zero list i bytes = refl
 word-codes (suc width) list i bytes =
     code-step (getD list i 0) (le width list (i + 1)) (everyByte 3 width) (everyByte 7 width)
     (below-at list (omega arith) bytes i)
-    ∙ ap₂ (λ (x y : ℕ). x + 256 * y) (sym (List·getD-map bitsCode list i 0)) (word-codes width list (i + 1) bytes)
+    ∙ ap₂ (λ (x y : ℕ). x + 256 * y) (sym (List·getD-map bitsCode list i 0))
+    (word-codes width list (i + 1) bytes)
 
 -- ---- The byte of a word of codes
 

@@ -85,7 +85,11 @@ module _ (symbols out : List ℕ) (place n : ℕ) where
 
   pub piece-none : n % 4 ≡ 0 → out ≡ pasted out place piece
   piece-none full =
-      let none : packedLength 4 n - n / 4 ≡ 0 = omega (arith, packedLength-full 4 n (omega arith) full) in
+      let none : packedLength 4 n - n / 4 ≡ 0 = omega (
+        arith,
+        packedLength-full 4 n (omega arith)
+            full,
+      ) in
       sym (pasted-nil out place)
       ∙ ap (λ (m : ℕ). pasted out place (part (pack 4 4 symbols) (n / 4) m)) (sym none)
 

@@ -39,7 +39,8 @@ known-lies letters from to none order inside sized =
       inside = inside;
       sized = sized;
       known = λ i above below.
-          not-false _ (any-none (λ letter. not (member letter alphabet)) letters none i 0 (omega arith));
+          not-false _ (any-none (λ letter. not (member letter alphabet)) letters none i 0
+          (omega arith));
     }
 
 -- ---- Codes
@@ -64,7 +65,8 @@ module _ (letters : List ℕ) (from to : ℕ) (order : from ≤ to) (inside : to
       → getD (codesIn letters from to) k 0 ≡ codeOfLetter (getD letters (from + k) 0)
   unfolding codesIn
   getD-codesIn k h =
-      getD-map-inside codeOfLetter (part letters from (to - from)) k 0 0 (omega (arith, length-read))
+      getD-map-inside codeOfLetter (part letters from (to - from)) k 0 0
+      (omega (arith, length-read))
       ∙ ap codeOfLetter
       (getD-take (to - from) (drop from letters) k 0 h ∙ getD-drop from letters k 0)
 

@@ -56,22 +56,29 @@ bits-below : (bits : ℕ → ℕ) (bound : ℕ) → bits 0 ≡ 0 → ((byte : �
     → (letters : List ℕ) (j : ℕ) → getD (map bits letters) j 0 < bound
 bits-below bits bound none small letters j =
     subst (λ (x : ℕ). x < bound)
-    (sym (List·getD-map bits letters j 0) ∙ ap (getD (map bits letters) j) none) (small (getD letters j 0))
+    (sym (List·getD-map bits letters j 0) ∙ ap (getD (map bits letters) j) none)
+    (small (getD letters j 0))
 
 module _ (letters : List ℕ) (i word : ℕ) (bytes : AllBytes letters) where
   pub word-byte : ReadLies letters i (i + 4) → word ≡ le 4 letters i
-      → (basesOf word * 64 + basesOf word / 16 + basesOf word / 16384 + basesOf word / 16777216) % 256
+      → (basesOf word * 64 + basesOf word / 16 + basesOf word / 16384 + basesOf word / 16777216)
+      % 256
       ≡ byteOf 4 4 (λ k. baseIn letters (i + k))
   unfolding le byteOf
   word-byte lies is =
       let all : List ℕ = map bitsBase letters in
-      let small : (j : ℕ) → getD all j 0 < 4 = bits-below bitsBase 4 refl (λ byte. omega arith) letters in
+      let small : (j : ℕ) → getD all j 0 < 4 = bits-below bitsBase 4 refl (λ byte. omega arith)
+      letters in
       let base : (k j : ℕ) → j ≡ i + k → k < 4 → getD all j 0 ≡ baseIn letters (i + k) =
       λ k j e h. base-in letters i (i + 4) k j lies e (omega arith) in
-      gather-bases (getD all i 0) (getD all (i + 1) 0) (getD all (i + 1 + 1) 0) (getD all (i + 1 + 1 + 1) 0)
-      (basesOf word) (small _) (small _) (small _) (small _) (ap basesOf is ∙ word-bases 4 letters i bytes)
-      ∙ four-digits (base 0 i (omega arith) (omega arith)) (base 1 (i + 1) (omega arith) (omega arith))
-      (base 2 (i + 1 + 1) (omega arith) (omega arith)) (base 3 (i + 1 + 1 + 1) (omega arith) (omega arith))
+      gather-bases (getD all i 0) (getD all (i + 1) 0) (getD all (i + 1 + 1) 0)
+      (getD all (i + 1 + 1 + 1) 0)
+      (basesOf word) (small _) (small _) (small _) (small _)
+      (ap basesOf is ∙ word-bases 4 letters i bytes)
+      ∙ four-digits (base 0 i (omega arith) (omega arith))
+      (base 1 (i + 1) (omega arith) (omega arith))
+      (base 2 (i + 1 + 1) (omega arith) (omega arith)) (base 3 (i + 1 + 1 + 1) (omega arith)
+      (omega arith))
 
   pub word-pair : ReadLies letters i (i + 2) → word ≡ le 2 letters i
       → (codesOf word * 16 + codesOf word / 256) % 256
@@ -79,9 +86,12 @@ module _ (letters : List ℕ) (i word : ℕ) (bytes : AllBytes letters) where
   unfolding le byteOf
   word-pair lies is =
       let all : List ℕ = map bitsCode letters in
-      let small : (j : ℕ) → getD all j 0 < 8 = bits-below bitsCode 8 refl (λ byte. omega arith) letters in
-      let code : (k j : ℕ) → j ≡ i + k → k < 2 → getD all j 0 ≡ codeOfLetter (getD letters (i + k) 0) =
+      let small : (j : ℕ) → getD all j 0 < 8 = bits-below bitsCode 8 refl (λ byte. omega arith)
+      letters in
+      let code : (k j : ℕ) → j ≡ i + k → k < 2 → getD all j 0 ≡ codeOfLetter
+      (getD letters (i + k) 0) =
       λ k j e h. code-in letters i (i + 2) k j lies e (omega arith) in
       gather-codes (getD all i 0) (getD all (i + 1) 0) (codesOf word) (small _) (small _)
       (ap codesOf is ∙ word-codes 2 letters i bytes)
-      ∙ two-digits (code 0 i (omega arith) (omega arith)) (code 1 (i + 1) (omega arith) (omega arith))
+      ∙ two-digits (code 0 i (omega arith) (omega arith))
+      (code 1 (i + 1) (omega arith) (omega arith))

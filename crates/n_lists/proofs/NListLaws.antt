@@ -42,7 +42,8 @@ module _ (letters : List ℕ) (from to count : ℕ) (fits : NListFits letters fr
   bytes = nListBytes (nOffsetsOf (codesIn letters from to))
 
   pub count-places : count ≡ length (nPlaces letters from to)
-  count-places = fits .counted ∙ count-offsets letters from to (fits .lies .ordered) (fits .lies .inside)
+  count-places =
+      fits .counted ∙ count-offsets letters from to (fits .lies .ordered) (fits .lies .inside)
 
   -- The count, then the offsets.
   list-bytes : bytes ≡ count ∷ stepBytes from (nPlaces letters from to)
@@ -104,7 +105,8 @@ module _ (letters : List ℕ) (before i to : ℕ) where
   length-turn place first =
       ap (λ (places : List ℕ). length (stepBytes before places)) (first .splits)
       ∙ ap length (steps-cons before place (nPlaces letters (place + 1) to))
-      ∙ length-append (varint16Bytes (place - before)) (stepBytes place (nPlaces letters (place + 1) to))
+      ∙ length-append (varint16Bytes (place - before)) (stepBytes place
+      (nPlaces letters (place + 1) to))
 
   pub length-end : length (nPlaces letters i to) ≤ 0
       → length (stepBytes before (nPlaces letters i to)) ≡ 0
@@ -132,7 +134,8 @@ unfolding nListBytes nOffsetsOf
 short-list letters from to count fits short =
     let codes : List ℕ = codesIn letters from to in
     let places : List ℕ = placesWhere (λ k. eqb (getD codes k 0) 4) (length codes) in
-    let size : length codes ≡ to - from = length-codesIn letters from to (fits .lies .ordered) (fits .lies .inside) in
+    let size : length codes ≡ to - from = length-codesIn letters from to (fits .lies .ordered)
+    (fits .lies .inside) in
     omega (
       arith,
       fits .counted,

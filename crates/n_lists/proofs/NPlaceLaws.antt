@@ -65,14 +65,16 @@ module _ (letters : List ℕ) where
       → nPlaces letters from to ≡ from ∷ nPlaces letters (from + 1) to
   places-found from to some is =
       places-cons from to some
-      ∙ ap (λ (t : Bool). cond t (from ∷ nPlaces letters (from + 1) to) (nPlaces letters (from + 1) to))
+      ∙ ap (λ (t : Bool). cond t (from ∷ nPlaces letters (from + 1) to)
+      (nPlaces letters (from + 1) to))
       (n-is-n (getD letters from 0) is)
 
   pub places-passed : (from to : ℕ) → from < to → (getD letters from 0 ≡ 78 → ⊥)
       → nPlaces letters from to ≡ nPlaces letters (from + 1) to
   places-passed from to some other =
       places-cons from to some
-      ∙ ap (λ (t : Bool). cond t (from ∷ nPlaces letters (from + 1) to) (nPlaces letters (from + 1) to))
+      ∙ ap (λ (t : Bool). cond t (from ∷ nPlaces letters (from + 1) to)
+      (nPlaces letters (from + 1) to))
       (other-is-none (getD letters from 0) other)
 
   -- So many letters that are none.
@@ -109,13 +111,15 @@ module _ (letters : List ℕ) where
       (λ t.
       let here : nPlaces letters from to ≡ from ∷ nPlaces letters (from + 1) to =
       places-cons from to (omega arith)
-      ∙ ap (λ (b : Bool). cond b (from ∷ nPlaces letters (from + 1) to) (nPlaces letters (from + 1) to)) t in
+      ∙ ap (λ (b : Bool). cond b (from ∷ nPlaces letters (from + 1) to)
+      (nPlaces letters (from + 1) to)) t in
       subst (First from to) (sym (ap (λ (l : List ℕ). getD l 0 to) here))
       (record { low = omega arith; high = omega arith; splits = here }))
       (λ t.
       let on : nPlaces letters from to ≡ nPlaces letters (from + 1) to =
       places-cons from to (omega arith)
-      ∙ ap (λ (b : Bool). cond b (from ∷ nPlaces letters (from + 1) to) (nPlaces letters (from + 1) to)) t in
+      ∙ ap (λ (b : Bool). cond b (from ∷ nPlaces letters (from + 1) to)
+      (nPlaces letters (from + 1) to)) t in
       let rest : First (from + 1) to (getD (nPlaces letters (from + 1) to) 0 to) =
       first-by n (from + 1) to (omega arith) (omega (arith, ap length on)) in
       subst (First from to) (sym (ap (λ (l : List ℕ). getD l 0 to) on))

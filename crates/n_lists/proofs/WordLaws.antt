@@ -50,4 +50,5 @@ word-skipped letters i to word bytes fits is clear =
     places-skipped letters 8 i to fits
     (λ k h.
     n-has-bit (getD letters (i + k) 0)
-    (bytes-clear 8 letters i bytes (ap (λ (w : ℕ). bitAnd w 578721382704613384) (sym is) ∙ clear) k h))
+    (bytes-clear 8 letters i bytes (ap (λ (w : ℕ). bitAnd w 578721382704613384) (sym is) ∙ clear) k
+    h))

@@ -25,7 +25,8 @@ unfolding isForward
 forward-strand true = refl
 forward-strand false = refl
 
-module _ (bases : ℕ) (reference : List ℕ) (previous : ℕ) (codes : List ℕ) (candidate : Candidate) where
+module _ (bases : ℕ) (reference : List ℕ) (previous : ℕ) (codes : List ℕ)
+    (candidate : Candidate) where
   abbrev entries : List Entry
   entries = candidateEntries reference codes candidate
 

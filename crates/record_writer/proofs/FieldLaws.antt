@@ -23,7 +23,8 @@ use Rattle.letter_packing.specs.Read.{endCodes}
 use Rattle.letter_packing.proofs.ReadLaws.{length-endCodes}
 use Rattle.letter_packing.proofs.PieceLaws.{packed-padded}
 use Rattle.record_writer.specs.Written.{fieldsFor, incrementalFor, recordWritten}
-use Rattle.record_writer.specs.Written.{fieldsWritten, positionBytes, alignedBytes, localBytes}
+use Rattle.record_writer.specs.Written.{fieldsWritten, positionBytes, alignedBytes}
+use Rattle.record_writer.specs.Written.{localBytes}
 use Rattle.record_writer.specs.Written.{rawBytes, raw4Bytes}
 
 -- ---- Entries
@@ -115,7 +116,8 @@ length-aligned bit previous position list n fits =
     )
 
 pub length-ends : (left right : ℕ) (codes : List ℕ) → left + right ≤ length codes
-    → length (packedBytes 4 4 (padded 4 (endCodes left right codes))) ≡ packedLength 4 (left + right)
+    → length (packedBytes 4 4 (padded 4 (endCodes left right codes))) ≡ packedLength 4
+    (left + right)
 length-ends left right codes fits =
     length-padded 4 4 (endCodes left right codes) (omega arith)
     ∙ ap (packedLength 4) (length-endCodes left right codes fits)

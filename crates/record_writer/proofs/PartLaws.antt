@@ -77,13 +77,15 @@ module _ (placement : Placement) (previous : ℕ) (list : List ℕ) (n : ℕ) (f
       packedBytes 4 4 (padded 4 (endCodes (placement .left) (placement .right) codes)) in
       let packed : packedBytes 4 4 (padded 4 (endCodes left right codes)) ≡ ends =
       ap₂ (λ (l r : ℕ). packedBytes 4 4 (padded 4 (endCodes l r codes))) is₁ is₂ in
-      let count : packedLength 4 (left + right) ≡ packedLength 4 (placement .left + placement .right) =
+      let count : packedLength 4 (left + right) ≡ packedLength 4
+      (placement .left + placement .right) =
       ap₂ (λ (l r : ℕ). packedLength 4 (l + r)) is₁ is₂ in (
         pasted-then out one new at next front (placement .left ∷ placement .right ∷ ends)
             (omega (arith, local-room, size-front)) (omega (arith, size-front)) e₁
             (stored-then one new next (placement .left) (next + 1) (placement .right ∷ ends)
             (omega (arith, local-room)) refl
-            (stored-then (set one next (placement .left)) new (next + 1) (placement .right) (next + 2)
+            (stored-then (set one next (placement .left)) new (next + 1) (placement .right)
+            (next + 2)
             ends (omega (arith, local-room)) (omega arith)
             (e₂ ∙ ap (pasted _ (next + 2)) packed))),
         omega (arith, length-local placement previous list n codes clips, size-front),
@@ -91,52 +93,53 @@ module _ (placement : Placement) (previous : ℕ) (list : List ℕ) (n : ℕ) (f
 
 -- ---- Raw letters
 
-module _ (letters : List ℕ) (from to : ℕ) (lies : ReadLies letters from to) (out : List ℕ) (at : ℕ) where
-  abbrev codes : List ℕ
-  codes = codesIn letters from to
+module _ (letters : List ℕ) (from to : ℕ) (lies : ReadLies letters from to) (out : List ℕ) (at : ℕ)
+  where
+    abbrev codes : List ℕ
+    codes = codesIn letters from to
 
-  size : length codes ≡ to - from
-  size = length-codesIn letters from to (lies .ordered) (lies .inside)
+    size : length codes ≡ to - from
+    size = length-codesIn letters from to (lies .ordered) (lies .inside)
 
-  pub raw-room : at + length (rawBytes codes) ≤ length out
-      → at + 1 + packedLength 4 (to - from + 0) ≤ length out
-  raw-room room =
+    pub raw-room : at + length (rawBytes codes) ≤ length out
+        → at + 1 + packedLength 4 (to - from + 0) ≤ length out
+    raw-room room =
+        omega (
+          arith,
+          length-raw codes,
+          ap (packedLength 4) (add-zero (to - from)),
+          ap (packedLength 4) size,
+        )
+
+    -- All letters are those of a left end that is the whole read.
+    pub raw-written : (new : List ℕ) (last : ℕ) → at + length (rawBytes codes) ≤ length out
+        → new
+        ≡ pasted (set out at 2) (at + 1) (packedBytes 4 4 (padded 4 (endCodes (to - from) 0 codes)))
+        → last ≡ at + 1 + packedLength 4 (to - from + 0)
+        → (new ≡ pasted out at (rawBytes codes)) × (last ≡ at + length (rawBytes codes))
+    unfolding rawBytes
+    raw-written new last room written after = (
+      stored-then out new at 2 (at + 1) _ (omega (arith, raw-room room)) refl written
+          ∙ ap (λ (ends : List ℕ). pasted out at (2 ∷ packedBytes 4 4 (padded 4 ends)))
+          (ap (λ (n : ℕ). endCodes n 0 codes) (sym size) ∙ endCodes-whole codes),
       omega (
         arith,
         length-raw codes,
         ap (packedLength 4) (add-zero (to - from)),
         ap (packedLength 4) size,
-      )
+      ),
+    )
 
-  -- All letters are those of a left end that is the whole read.
-  pub raw-written : (new : List ℕ) (last : ℕ) → at + length (rawBytes codes) ≤ length out
-      → new
-      ≡ pasted (set out at 2) (at + 1) (packedBytes 4 4 (padded 4 (endCodes (to - from) 0 codes)))
-      → last ≡ at + 1 + packedLength 4 (to - from + 0)
-      → (new ≡ pasted out at (rawBytes codes)) × (last ≡ at + length (rawBytes codes))
-  unfolding rawBytes
-  raw-written new last room written after = (
-    stored-then out new at 2 (at + 1) _ (omega (arith, raw-room room)) refl written
-        ∙ ap (λ (ends : List ℕ). pasted out at (2 ∷ packedBytes 4 4 (padded 4 ends)))
-        (ap (λ (n : ℕ). endCodes n 0 codes) (sym size) ∙ endCodes-whole codes),
-    omega (
-      arith,
-      length-raw codes,
-      ap (packedLength 4) (add-zero (to - from)),
-      ap (packedLength 4) size,
-    ),
-  )
+    pub raw4-room : at + length (raw4Bytes codes) ≤ length out
+        → at + 1 + packedLength 2 (to - from) ≤ length out
+    raw4-room room = omega (arith, length-raw4 codes, ap (packedLength 2) size)
 
-  pub raw4-room : at + length (raw4Bytes codes) ≤ length out
-      → at + 1 + packedLength 2 (to - from) ≤ length out
-  raw4-room room = omega (arith, length-raw4 codes, ap (packedLength 2) size)
-
-  pub raw4-written : (new : List ℕ) (last : ℕ) → at + length (raw4Bytes codes) ≤ length out
-      → new ≡ pasted (set out at 1) (at + 1) (packedBytes 16 2 (padded 2 codes))
-      → last ≡ at + 1 + packedLength 2 (to - from)
-      → (new ≡ pasted out at (raw4Bytes codes)) × (last ≡ at + length (raw4Bytes codes))
-  unfolding raw4Bytes
-  raw4-written new last room written after = (
-    stored-then out new at 1 (at + 1) _ (omega (arith, raw4-room room)) refl written,
-    omega (arith, length-raw4 codes, ap (packedLength 2) size),
-  )
+    pub raw4-written : (new : List ℕ) (last : ℕ) → at + length (raw4Bytes codes) ≤ length out
+        → new ≡ pasted (set out at 1) (at + 1) (packedBytes 16 2 (padded 2 codes))
+        → last ≡ at + 1 + packedLength 2 (to - from)
+        → (new ≡ pasted out at (raw4Bytes codes)) × (last ≡ at + length (raw4Bytes codes))
+    unfolding raw4Bytes
+    raw4-written new last room written after = (
+      stored-then out new at 1 (at + 1) _ (omega (arith, raw4-room room)) refl written,
+      omega (arith, length-raw4 codes, ap (packedLength 2) size),
+    )

@@ -20,7 +20,8 @@ module _ (previous position : ℕ) where
   pub step-back : position < previous → false ≡ stepFits previous position
   unfolding stepFits
   step-back back =
-      sym (ap (λ (t : Bool). t && leb (position - previous) maxStep) (lt-leb previous position back))
+      sym (ap (λ (t : Bool). t && leb (position - previous) maxStep)
+      (lt-leb previous position back))
 
   pub step-on : previous ≤ position → leb (position - previous) maxStep ≡ stepFits previous position
   unfolding stepFits

@@ -14,7 +14,8 @@ add-if1 c = search needs
 returns : tie.Need-returns
 returns c =
     let a = c .before .before .args in (
-      sym (ends-past (a .letters .now) (a .from) (a .to) (a .left) (a .right) (omega arith) (omega arith) (omega arith) (a .k) (c .if1 .taken)),
+      sym (ends-past (a .letters .now) (a .from) (a .to) (a .left) (a .right) (omega arith)
+          (omega arith) (omega arith) (a .k) (c .if1 .taken)),
       omega arith,
     )
 
@@ -33,7 +34,8 @@ returns-2 : tie.Need-returns-2
 unfolding baseIn
 returns-2 c =
     let a = c .before .before .before .before .before .args in (
-      c .base-of-letter .ensures .0 ∙ sym (ends-left (a .letters .now) (a .from) (a .to) (a .left) (a .right) (omega arith) (omega arith) (omega arith) (a .k) (c .before .before .if2 .taken)),
+      c .base-of-letter .ensures .0 ∙ sym (ends-left (a .letters .now) (a .from) (a .to) (a .left)
+          (a .right) (omega arith) (omega arith) (omega arith) (a .k) (c .before .before .if2 .taken)),
       c .base-of-letter .ensures .1,
     )
 
@@ -52,13 +54,16 @@ shared-slice-read-base-of-letter-2 c = search needs
 base-of-letter-requires-2 : tie.Need-base-of-letter-requires-2
 base-of-letter-requires-2 c κs =
     let a = c .before .before .before .before .args in
-    c .before .before .before .before .pre .0 .known (a .to - (a .left + a .right) + a .k) (omega arith) (omega arith)
+    c .before .before .before .before .pre .0 .known (a .to - (a .left + a .right) + a .k)
+    (omega arith) (omega arith)
 
 returns-3 : tie.Need-returns-3
 unfolding baseIn
 returns-3 c =
     let a = c .before .before .before .before .before .args in (
-      c .base-of-letter2 .ensures .0 ∙ sym (ends-right (a .letters .now) (a .from) (a .to) (a .left) (a .right) (omega arith) (omega arith) (omega arith) (a .k) _ (c .before .before .if2 .left) (c .before .before .before .if1 .left) refl),
+      c .base-of-letter2 .ensures .0 ∙ sym (ends-right (a .letters .now) (a .from) (a .to) (a .left)
+          (a .right) (omega arith) (omega arith) (omega arith) (a .k) _ (c .before .before .if2 .left)
+          (c .before .before .before .if1 .left) refl),
       c .base-of-letter2 .ensures .1,
     )
 

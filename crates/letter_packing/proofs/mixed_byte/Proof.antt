@@ -34,7 +34,15 @@ returns : tie.Need-returns
 unfolding byteOf
 returns c =
     let a = c .before .before .before .before .before .before .args in
-    simp add-zero (omega (arith, c .byte2 .ensures, c .before .before .before .before .end-code .ensures .0, c .before .before .before .end-code2 .ensures .0, c .before .before .end-code3 .ensures .0, c .before .end-code4 .ensures .0))
+    simp add-zero
+    (omega (
+      arith,
+      c .byte2 .ensures,
+      c .before .before .before .before .end-code .ensures .0,
+      c .before .before .before .end-code2 .ensures .0,
+      c .before .before .end-code3 .ensures .0,
+      c .before .end-code4 .ensures .0,
+    ))
 
 pub mixed-byte-spec : {M : Type 1} → statement M
 mixed-byte-spec =

@@ -19,14 +19,21 @@ add-end c = search needs
 put-full-bytes-requires : tie.Need-put-full-bytes-requires
 unfolding packedLength
 put-full-bytes-requires c κs = (
-  lies-part _ _ (c .before .before .before .before .pre .0 .0) (omega arith) (omega arith) (omega arith),
+  lies-part _ _ (c .before .before .before .before .pre .0 .0) (omega arith) (omega arith)
+      (omega arith),
   omega arith,
 )
 
 put-mixed-byte-requires : tie.Need-put-mixed-byte-requires
 unfolding packedLength
-put-mixed-byte-requires c κs =
-    ((c .before .before .before .before .before .before .before .before .pre .0 .0, omega arith, omega arith), omega arith)
+put-mixed-byte-requires c κs = (
+  (
+    c .before .before .before .before .before .before .before .before .pre .0 .0,
+    omega arith,
+    omega arith,
+  ),
+  omega arith,
+)
 
 put-right-bytes-requires : tie.Need-put-right-bytes-requires
 put-right-bytes-requires c κs = search needs
@@ -39,16 +46,19 @@ same-length c = search needs
 
 returns : tie.Need-returns
 returns c =
-    let start = c .before .before .before .before .before .before .before .before .before .before .before .before .before .before .before .before .before .before .before in
+    let fourth = c .before .before in
+    let third = fourth .before .before .before .before in
+    let second = third .before .before .before .before in
+    let first = second .before .before .before .before in
+    let size = first .before .before in
+    let start = size .before .before .before in
     let a = start .args in
-    let order = start .pre .0 .0 .ordered in
-    let inside = start .pre .0 .0 .inside in
-    let fits = start .pre .0 .1 in (
-      ends-pieces (a .letters .now) (a .from) (a .to) (a .left) (a .right) order inside fits
-          (a .out .now) _ _ _ _ (a .at) (start .pre .1)
-          (c .before .before .before .before .before .before .before .before .before .before .before .before .before .before .put-full-bytes .ensures)
-          (c .before .before .before .before .before .before .before .before .before .before .put-mixed-byte .ensures) (c .before .before .before .before .before .before .put-right-bytes .ensures) (c .before .before .put-mixed-byte2 .ensures),
-      omega (arith, c .before .before .before .before .before .before .before .before .before .before .before .before .before .before .before .before .packed-length2 .ensures),
+    let lies = start .pre .0 .0 in (
+      ends-pieces (a .letters .now) (a .from) (a .to) (a .left) (a .right) (lies .ordered)
+          (lies .inside) (start .pre .0 .1) (a .out .now) _ _ _ _ (a .at) (start .pre .1)
+          (first .put-full-bytes .ensures) (second .put-mixed-byte .ensures)
+          (third .put-right-bytes .ensures) (fourth .put-mixed-byte2 .ensures),
+      omega (arith, size .packed-length2 .ensures),
     )
 
 pub put-ends-spec : {M : Type 1} → statement M

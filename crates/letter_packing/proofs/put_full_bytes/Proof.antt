@@ -35,7 +35,9 @@ add-full-byte : tie.Need-add-full-byte Inv-loop μ-loop
 add-full-byte c = search needs
 
 full-byte-requires : tie.Need-full-byte-requires Inv-loop μ-loop
-full-byte-requires c κs = lies-part _ _ (c .before .before .before .before .pre .0) (omega arith) (omega arith) (omega arith)
+full-byte-requires c κs =
+    lies-part _ _ (c .before .before .before .before .pre .0) (omega arith) (omega arith)
+    (omega arith)
 
 add-out : tie.Need-add-out Inv-loop μ-loop
 add-out c = search needs
@@ -54,7 +56,9 @@ loop-again c =
     let a = c .before .before .before .before .before .args in
     let l = c .before .before .loop in (
       omega arith,
-      pasted-turn (a .out .now) (a .at) (λ i. byteOf 4 4 (λ k. baseIn (a .letters .now) (a .start + 4 * i + k))) (l .out) (l .j) _ (omega arith) (l .inv .1)
+      pasted-turn (a .out .now) (a .at) (λ i. byteOf 4 4
+          (λ k. baseIn (a .letters .now) (a .start + 4 * i + k))) (l .out) (l .j) _ (omega arith)
+          (l .inv .1)
           (c .full-byte .ensures),
       simp length-set (l .inv .2),
     )
@@ -67,7 +71,8 @@ returns c =
     let a = c .before .before .before .before .args in
     let l = c .before .loop in
     let all : l .j ≡ a .count = omega arith in
-    l .inv .1 ∙ ap (λ (n : ℕ). pasted (a .out .now) (a .at) (build n (λ i. byteOf 4 4 (λ k. baseIn (a .letters .now) (a .start + 4 * i + k))))) all
+    l .inv .1 ∙ ap (λ (n : ℕ). pasted (a .out .now) (a .at)
+    (build n (λ i. byteOf 4 4 (λ k. baseIn (a .letters .now) (a .start + 4 * i + k))))) all
 
 pub put-full-bytes-spec : {M : Type 1} → statement M
 put-full-bytes-spec =

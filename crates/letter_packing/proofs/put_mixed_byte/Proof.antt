@@ -28,14 +28,18 @@ returns : tie.Need-returns
 unfolding packedLength
 returns c =
     let a = c .before .before .before .before .args in
-    let size = length-ends (a .letters .now) (a .from) (a .to) (a .left) (a .right) (omega arith) (omega arith) (omega arith) in
-    piece-one (endCodes (a .left) (a .right) (codesIn (a .letters .now) (a .from) (a .to))) (a .out .now) _ (a .n) _
-    (omega (arith, c .before .if1 .taken)) (omega arith) (omega (arith, c .before .if1 .taken)) (c .mixed-byte .ensures)
+    let size = length-ends (a .letters .now) (a .from) (a .to) (a .left) (a .right) (omega arith)
+    (omega arith) (omega arith) in
+    piece-one (endCodes (a .left) (a .right) (codesIn (a .letters .now) (a .from) (a .to)))
+    (a .out .now) _ (a .n) _
+    (omega (arith, c .before .if1 .taken)) (omega arith) (omega (arith, c .before .if1 .taken))
+    (c .mixed-byte .ensures)
 
 returns-2 : tie.Need-returns-2
 returns-2 c =
     let a = c .before .before .before .args in
-    piece-none (endCodes (a .left) (a .right) (codesIn (a .letters .now) (a .from) (a .to))) (a .out .now) _ (a .n)
+    piece-none (endCodes (a .left) (a .right) (codesIn (a .letters .now) (a .from) (a .to)))
+    (a .out .now) _ (a .n)
     (omega (arith, c .if1 .left))
 
 pub put-mixed-byte-spec : {M : Type 1} → statement M

@@ -41,7 +41,8 @@ add-pair-byte c = search needs
 
 pair-byte-requires : tie.Need-pair-byte-requires Inv-loop μ-loop
 pair-byte-requires c κs =
-    lies-part _ _ (c .before .before .before .before .pre .0) (omega arith) (omega arith) (omega arith)
+    lies-part _ _ (c .before .before .before .before .pre .0) (omega arith) (omega arith)
+    (omega arith)
 
 add-out : tie.Need-add-out Inv-loop μ-loop
 unfolding packedLength
@@ -63,9 +64,11 @@ loop-again c =
     let a = c .before .before .before .before .before .args in
     let l = c .before .before .loop in (
       omega arith,
-      pasted-turn (a .out .now) (a .at) (packedByte 16 2 (codesIn (a .letters .now) (a .from) (a .to))) (l .out) (l .k) _
+      pasted-turn (a .out .now) (a .at) (packedByte 16 2
+          (codesIn (a .letters .now) (a .from) (a .to))) (l .out) (l .k) _
           (omega arith) (l .inv .1)
-          (c .pair-byte .ensures ∙ pair-packed (a .letters .now) (a .from) (a .to) (omega arith) (omega arith) (l .k) (omega arith)),
+          (c .pair-byte .ensures ∙ pair-packed (a .letters .now) (a .from) (a .to) (omega arith)
+          (omega arith) (l .k) (omega arith)),
       simp length-set (l .inv .2),
     )
 
@@ -81,7 +84,8 @@ shared-slice-read-code-of-letter c = omega (arith, c .before .if1 .taken)
 code-of-letter-requires : tie.Need-code-of-letter-requires Inv-loop μ-loop
 code-of-letter-requires c κs =
     let a = c .before .before .before .before .before .before .args in
-    c .before .before .before .before .before .before .pre .0 .known (a .to - 1) (omega (arith, c .before .if1 .taken)) (omega (arith, c .before .if1 .taken))
+    c .before .before .before .before .before .before .pre .0 .known (a .to - 1)
+    (omega (arith, c .before .if1 .taken)) (omega (arith, c .before .if1 .taken))
 
 mul-out : tie.Need-mul-out Inv-loop μ-loop
 mul-out c = search needs
@@ -112,9 +116,12 @@ returns c =
     let l = c .before .before .before .before .loop in
     let codes = codesIn (a .letters .now) (a .from) (a .to) in
     let size = length-codesIn (a .letters .now) (a .from) (a .to) (omega arith) (omega arith) in (
-      pasted-pack-partial 16 2 (omega arith) codes (a .out .now) (l .out) (a .at) (l .k) _ (omega arith)
+      pasted-pack-partial 16 2 (omega arith) codes (a .out .now) (l .out) (a .at) (l .k) _
+          (omega arith)
           (omega (arith, c .before .before .if1 .taken)) (omega arith) (l .inv .1)
-          (last-packed (a .letters .now) (a .from) (a .to) (omega arith) (omega arith) (l .k) _ (omega arith) (omega (arith, c .before .before .if1 .taken)) (c .code-of-letter .ensures .0))
+          (last-packed (a .letters .now) (a .from) (a .to) (omega arith) (omega arith) (l .k) _
+          (omega arith) (omega (arith, c .before .before .if1 .taken))
+          (c .code-of-letter .ensures .0))
           ∙ ap (pasted (a .out .now) (a .at)) (sym (packed-padded 16 2 codes (omega arith))),
       omega (arith, c .before .before .if1 .taken),
     )

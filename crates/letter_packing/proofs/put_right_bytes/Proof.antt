@@ -32,7 +32,8 @@ put-full-bytes-requires : tie.Need-put-full-bytes-requires
 unfolding packedLength
 put-full-bytes-requires c κs =
     let next = c .before .before .packed-length2 .ensures in (
-      lies-part _ _ (c .before .before .before .before .before .pre .0 .0) (omega arith) (omega arith) (omega arith),
+      lies-part _ _ (c .before .before .before .before .before .pre .0 .0) (omega arith)
+          (omega arith) (omega arith),
       omega arith,
     )
 
@@ -42,13 +43,17 @@ same-length c = search needs
 returns : tie.Need-returns
 returns c =
     let a = c .before .before .before .before .before .before .before .before .args in
-    right-some (a .letters .now) (a .from) (a .to) (a .left) (a .right) (omega arith) (omega arith) (omega arith)
-    (a .out .now) _ (a .at) (c .before .before .before .before .before .packed-length2 .result) (c .before .before .before .before .before .packed-length2 .ensures) (c .before .before .put-full-bytes .ensures)
+    right-some (a .letters .now) (a .from) (a .to) (a .left) (a .right) (omega arith) (omega arith)
+    (omega arith)
+    (a .out .now) _ (a .at) (c .before .before .before .before .before .packed-length2 .result)
+    (c .before .before .before .before .before .packed-length2 .ensures)
+    (c .before .before .put-full-bytes .ensures)
 
 returns-2 : tie.Need-returns-2
 returns-2 c =
     let a = c .before .before .before .before .args in
-    right-none (a .letters .now) (a .from) (a .to) (a .left) (a .right) (omega arith) (omega arith) (omega arith)
+    right-none (a .letters .now) (a .from) (a .to) (a .left) (a .right) (omega arith) (omega arith)
+    (omega arith)
     (a .out .now) _ (omega (arith, c .before .packed-length2 .ensures))
 
 pub put-right-bytes-spec : {M : Type 1} → statement M

@@ -31,7 +31,8 @@ add-count c =
     let a = c .before .before .before .before .before .args in
     omega (
       arith,
-      count-cons (a .letters .now) (c .before .before .before .loop .i) (a .to) (c .one-if-n .result) (c .before .before .loop-test .taken) (c .one-if-n .ensures),
+      count-cons (a .letters .now) (c .before .before .before .loop .i) (a .to)
+          (c .one-if-n .result) (c .before .before .loop-test .taken) (c .one-if-n .ensures),
       count-below (a .letters .now) (a .from) (a .to),
     )
 
@@ -44,7 +45,8 @@ loop-less c = search needs
 loop-again : tie.Need-loop-again Inv-loop μ-loop
 loop-again c =
     let a = c .before .before .before .before .before .args in
-    let more = count-cons (a .letters .now) (c .before .before .before .loop .i) (a .to) (c .one-if-n .result) (c .before .before .loop-test .taken) (c .one-if-n .ensures) in
+    let more = count-cons (a .letters .now) (c .before .before .before .loop .i) (a .to)
+    (c .one-if-n .result) (c .before .before .loop-test .taken) (c .one-if-n .ensures) in
     (omega arith, omega arith, omega arith)
 
 returns : tie.Need-returns Inv-loop μ-loop

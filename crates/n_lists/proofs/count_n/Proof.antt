@@ -37,7 +37,8 @@ add-count c =
       c .before .before .chunk-end .ensures,
       c .size8 .ensures .0,
       c .before .count-chunk .ensures .0,
-      count-split (a .letters .now) (c .before .before .before .before .loop .i) (c .before .before .chunk-end .result) (a .to) (omega arith) (omega arith),
+      count-split (a .letters .now) (c .before .before .before .before .loop .i)
+          (c .before .before .chunk-end .result) (a .to) (omega arith) (omega arith),
       count-below (a .letters .now) (a .from) (a .to),
     )
 
@@ -48,8 +49,16 @@ loop-again : tie.Need-loop-again Inv-loop μ-loop
 loop-again c =
     let a = c .before .before .before .before .before .before .args in
     let end = c .before .before .chunk-end .ensures in
-    let split = count-split (a .letters .now) (c .before .before .before .before .loop .i) (c .before .before .chunk-end .result) (a .to) (omega arith) (omega arith) in
-    (omega arith, omega arith, omega (arith, c .size8 .ensures .0, c .before .count-chunk .ensures .0))
+    let split = count-split (a .letters .now) (c .before .before .before .before .loop .i)
+    (c .before .before .chunk-end .result) (a .to) (omega arith) (omega arith) in (
+      omega arith,
+      omega arith,
+      omega (
+        arith,
+        c .size8 .ensures .0,
+        c .before .count-chunk .ensures .0,
+      ),
+    )
 
 returns : tie.Need-returns Inv-loop μ-loop
 returns c =

@@ -6,7 +6,8 @@ use lib.ListN.{length}
 use borrow.Author.Needs.{needs}
 use Rattle.n_lists.specs.NPlaces.{nPlaces}
 use Rattle.n_lists.proofs.NPlaceLaws.{First, places-first}
-use Rattle.n_lists.proofs.NListLaws.{stepBytes, count-places, length-list, length-turn, length-end}
+use Rattle.n_lists.proofs.NListLaws.{stepBytes, count-places, length-list, length-turn}
+use Rattle.n_lists.proofs.NListLaws.{length-end}
 use Rattle.n_lists.proofs.long_list_length.Statement.{statement}
 use Rattle.n_lists.proofs.long_list_length.Tie as tie
 
@@ -48,17 +49,26 @@ sub-words-length : tie.Need-sub-words-length Inv-loop μ-loop
 sub-words-length c = omega (arith, first c .low)
 
 cast-words-length : tie.Need-cast-words-length Inv-loop μ-loop
-cast-words-length c = omega (arith, first c .low, first c .high, c .before .before .before .before .pre .lies .sized)
+cast-words-length c =
+    omega (arith, first c .low, first c .high, c .before .before .before .before .pre .lies .sized)
 
 words-length-requires : tie.Need-words-length-requires Inv-loop μ-loop
 words-length-requires c κs = search needs
 
 add-sum : tie.Need-add-sum Inv-loop μ-loop
 add-sum c =
-    omega (arith, c .words-length .ensures .1, c .before .before .before .loop .inv .5, c .before .before .before .before .before .pre .few, c .before .before .loop-test .taken)
+    omega (
+      arith,
+      c .words-length .ensures .1,
+      c .before .before .before .loop .inv .5,
+      c .before .before .before .before .before .pre .few,
+      c .before .before .loop-test .taken,
+    )
 
 add-i : tie.Need-add-i Inv-loop μ-loop
-add-i c = omega (arith, first (c .before) .high, c .before .before .before .before .before .pre .lies .inside)
+add-i c =
+    omega
+    (arith, first (c .before) .high, c .before .before .before .before .before .pre .lies .inside)
 
 add-k : tie.Need-add-k Inv-loop μ-loop
 add-k c = search needs

@@ -28,7 +28,9 @@ shared-slice-read-if1 c = search needs
 returns : tie.Need-returns Inv-loop μ-loop
 returns c =
     let a = c .before .before .before .before .before .before .args in
-    sym (ap (λ (l : List ℕ). getD l 0 (a .to)) (c .before .before .before .loop .inv .1 ∙ places-found (a .letters .now) (c .before .before .before .loop .i) (a .to) (c .before .before .loop-test .taken) (c .if1 .taken)))
+    sym (ap (λ (l : List ℕ). getD l 0 (a .to)) (c .before .before .before .loop .inv .1
+    ∙ places-found (a .letters .now) (c .before .before .before .loop .i) (a .to)
+    (c .before .before .loop-test .taken) (c .if1 .taken)))
 
 add-i : tie.Need-add-i Inv-loop μ-loop
 add-i c = search needs
@@ -38,13 +40,18 @@ loop-less c = search needs
 
 loop-again : tie.Need-loop-again Inv-loop μ-loop
 loop-again c =
-    let a = c .before .before .before .before .before .before .args in
-    (omega arith, c .before .before .before .loop .inv .1 ∙ places-passed (a .letters .now) (c .before .before .before .loop .i) (a .to) (c .before .before .loop-test .taken) (c .if1 .left))
+    let a = c .before .before .before .before .before .before .args in (
+      omega arith,
+      c .before .before .before .loop .inv .1 ∙ places-passed (a .letters .now)
+          (c .before .before .before .loop .i) (a .to) (c .before .before .loop-test .taken)
+          (c .if1 .left),
+    )
 
 returns-2 : tie.Need-returns-2 Inv-loop μ-loop
 returns-2 c =
     let a = c .before .before .before .before .args in
-    sym (ap (λ (l : List ℕ). getD l 0 (a .to)) (c .before .loop .inv .1 ∙ places-none (a .letters .now) (c .before .loop .i) (a .to) (c .loop-test .left)))
+    sym (ap (λ (l : List ℕ). getD l 0 (a .to)) (c .before .loop .inv .1 ∙ places-none
+    (a .letters .now) (c .before .loop .i) (a .to) (c .loop-test .left)))
 
 pub next-n-spec : {M : Type 1} → statement M
 next-n-spec =

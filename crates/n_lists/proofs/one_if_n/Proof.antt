@@ -9,7 +9,8 @@ returns : tie.Need-returns
 returns c = sym (ap (λ (t : Bool). cond t 1 0) (n-is-n (c .before .args .letter) (c .if1 .taken)))
 
 returns-2 : tie.Need-returns-2
-returns-2 c = sym (ap (λ (t : Bool). cond t 1 0) (other-is-none (c .before .args .letter) (c .if1 .left)))
+returns-2 c =
+    sym (ap (λ (t : Bool). cond t 1 0) (other-is-none (c .before .args .letter) (c .if1 .left)))
 
 pub one-if-n-spec : {M : Type 1} → statement M
 one-if-n-spec = tie.close (tie.spec returns returns-2)

@@ -8,7 +8,8 @@ use Rattle.base.specs.Paste.{pasted}
 use Rattle.base.proofs.PastingLaws.{Pasting, pasting-start}
 use Rattle.n_lists.specs.NPlaces.{nPlaces}
 use Rattle.n_lists.proofs.NPlaceLaws.{First, places-first}
-use Rattle.n_lists.proofs.NListLaws.{stepBytes, count-places, length-list, list-room, list-end}
+use Rattle.n_lists.proofs.NListLaws.{stepBytes, count-places, length-list, list-room}
+use Rattle.n_lists.proofs.NListLaws.{list-end}
 use Rattle.n_lists.proofs.NListLaws.{offset-room, offset-turn, offsets-end}
 use Rattle.n_lists.proofs.put_n_list.Statement.{statement}
 use Rattle.n_lists.proofs.put_n_list.Tie as tie
@@ -39,12 +40,20 @@ cast-out c = omega (arith, c .before .before .pre .0 .few)
 slice-write-out : tie.Need-slice-write-out Inv-loop μ-loop
 slice-write-out c =
     let a = c .before .before .args in
-    omega (arith, length-list (a .letters .now) (a .from) (a .to) (a .count) (c .before .before .pre .0))
+    omega (
+      arith,
+      length-list (a .letters .now) (a .from) (a .to) (a .count)
+          (c .before .before .pre .0),
+    )
 
 add-next : tie.Need-add-next Inv-loop μ-loop
 add-next c =
     let a = c .before .before .args in
-    omega (arith, length-list (a .letters .now) (a .from) (a .to) (a .count) (c .before .before .pre .0))
+    omega (
+      arith,
+      length-list (a .letters .now) (a .from) (a .to) (a .count)
+          (c .before .before .pre .0),
+    )
 
 loop-holds : tie.Need-loop-holds Inv-loop μ-loop
 loop-holds c =
@@ -54,24 +63,35 @@ loop-holds c =
       omega arith,
       fits .lies .ordered,
       omega (arith, count-places (a .letters .now) (a .from) (a .to) (a .count) fits),
-      pasting-start _ (a .at + 1) (stepBytes (a .from) (nPlaces (a .letters .now) (a .from) (a .to)))
-          (list-room (a .letters .now) (a .from) (a .to) (a .count) fits (a .out .now) (a .at) (c .before .before .pre .1)),
+      pasting-start _ (a .at + 1) (stepBytes (a .from) (nPlaces (a .letters .now) (a .from)
+          (a .to)))
+          (list-room (a .letters .now) (a .from) (a .to) (a .count) fits (a .out .now) (a .at)
+          (c .before .before .pre .1)),
       refl,
     )
 
 next-n-requires : tie.Need-next-n-requires Inv-loop μ-loop
-next-n-requires c κs = (c .before .loop .inv .2, c .before .before .before .before .pre .0 .lies .inside)
+next-n-requires c κs =
+    (c .before .loop .inv .2, c .before .before .before .before .pre .0 .lies .inside)
 
 sub-put-words : tie.Need-sub-put-words Inv-loop μ-loop
 sub-put-words c = omega (arith, first c .low)
 
 cast-put-words : tie.Need-cast-put-words Inv-loop μ-loop
-cast-put-words c = omega (arith, first c .low, first c .high, c .before .before .before .before .before .pre .0 .lies .sized)
+cast-put-words c =
+    omega (
+      arith,
+      first c .low,
+      first c .high,
+      c .before .before .before .before .before .pre .0 .lies .sized,
+    )
 
 put-words-requires : tie.Need-put-words-requires Inv-loop μ-loop
 put-words-requires c κs =
     let l = c .before .before .before .loop in
-    offset-room (c .before .before .before .before .before .before .args .letters .now) (l .before) (l .i) (c .before .before .before .before .before .before .args .to) (l .inv .4) (c .before .next-n .result) (first (c .before))
+    offset-room (c .before .before .before .before .before .before .args .letters .now) (l .before)
+    (l .i) (c .before .before .before .before .before .before .args .to) (l .inv .4)
+    (c .before .next-n .result) (first (c .before))
 
 add-i : tie.Need-add-i Inv-loop μ-loop
 add-i c =
@@ -95,7 +115,8 @@ loop-again c =
       omega arith,
       omega (arith, next .high),
       omega (arith, ap length (next .splits)),
-      offset-turn (a .letters .now) (l .before) (l .i) (a .to) (l .inv .4) (n .next-n .result) next _ _
+      offset-turn (a .letters .now) (l .before) (l .i) (a .to) (l .inv .4) (n .next-n .result) next
+          _ _
           (put .put-words .ensures .0) (put .put-words .ensures .1),
       search needs,
     )
@@ -109,7 +130,9 @@ returns : tie.Need-returns Inv-loop μ-loop
 returns c =
     let a = c .before .before .before .before .args in
     let l = c .before .loop in
-    list-end (a .letters .now) (a .from) (a .to) (a .count) (c .before .before .before .before .pre .0) (a .out .now) _ (a .at) _ (c .before .before .before .before .pre .1)
+    list-end (a .letters .now) (a .from) (a .to) (a .count)
+    (c .before .before .before .before .pre .0) (a .out .now) _ (a .at) _
+    (c .before .before .before .before .pre .1)
     (offsets-end (a .letters .now) (l .before) (l .i) (a .to) (l .inv .4) (omega arith))
 
 pub put-n-list-spec : {M : Type 1} → statement M

@@ -37,8 +37,15 @@ loop-again c =
     let a = c .before .before .before .before .before .args in (
       omega arith,
       c .before .before .before .loop .inv .1
-          ∙ word-skipped (a .letters .now) (c .before .before .before .loop .i) (a .to) (c .before .u64-at .result)
-          (record { each = λ k h. omega (arith, c .before .before .before .before .shared-slice-known .given k) })
+          ∙ word-skipped (a .letters .now) (c .before .before .before .loop .i) (a .to)
+          (c .before .u64-at .result)
+          (record {
+            each = λ k h. omega (
+              arith,
+              c .before .before .before .before .shared-slice-known .given
+                  k,
+            );
+          })
           (omega arith) (c .before .u64-at .ensures) (omega (arith, c .if1 .left)),
     )
 

@@ -9,13 +9,15 @@ use Rattle.base.specs.Packed.{packedLength}
 use Rattle.dna.specs.Record.{Entry}
 use Rattle.dna.specs.declared.Record.{Record}
 use Rattle.record_writer.specs.Written.{fieldsWritten, KindFits}
-use Rattle.record_writer.proofs.FieldLaws.{perfect-fields, raw-fields, raw4-fields, length-raw, length-raw4}
+use Rattle.record_writer.proofs.FieldLaws.{perfect-fields, raw-fields, raw4-fields}
+use Rattle.record_writer.proofs.FieldLaws.{length-raw, length-raw4}
 use Rattle.record_writer.proofs.LengthLaws.{length-global, length-with-ends}
 use Rattle.record_writer.proofs.fields_length.Statement.{statement}
 use Rattle.record_writer.proofs.fields_length.Tie as tie
 
 -- The length of the fields, where the record is `r`.
-told : (c : tie.Start) (r : Record) → c .args .«record» ≡ r → (written : List Entry) (codes : List ℕ)
+told : (c : tie.Start) (r : Record) → c .args .«record» ≡ r → (written : List Entry)
+    (codes : List ℕ)
     → {n : ℕ} → n ≡ length (fieldsWritten (c .args .previous) r written codes)
     → n ≡ length (fieldsWritten (c .args .previous) (c .args .«record») written codes)
 told c r e written codes is =
@@ -65,7 +67,14 @@ packed-length2-requires c κs = search needs
 
 add-result-5 : tie.Need-add-result-5
 unfolding packedLength
-add-result-5 c = omega (arith, c .packed-length2 .ensures, c .before .before .before .size8 .ensures .1, c .before .before .size82 .ensures .1, c .before .position-length3 .ensures .1)
+add-result-5 c =
+    omega (
+      arith,
+      c .packed-length2 .ensures,
+      c .before .before .before .size8 .ensures .1,
+      c .before .before .size82 .ensures .1,
+      c .before .position-length3 .ensures .1,
+    )
 
 enum-told : tie.Need-enum-told
 enum-told c = search needs
@@ -93,7 +102,8 @@ returns c =
     let start = c .before .before .before .before in (
       λ written codes many size.
           c .position-length .ensures .0
-          ∙ sym (ap length (ap (λ (k : Record). fieldsWritten (start .args .previous) k written codes) (r .1) ∙ perfect-fields (start .args .previous) (r .0 .0) written codes)),
+          ∙ sym (ap length (ap (λ (k : Record). fieldsWritten (start .args .previous) k written
+          codes) (r .1) ∙ perfect-fields (start .args .previous) (r .0 .0) written codes)),
       omega (arith, c .position-length .ensures .1),
     )
 
@@ -102,7 +112,11 @@ returns-2 c =
     let r = c .before .before .record2 .given in
     let start = c .before .before .before .before in (
       λ written codes many size.
-          told start _ (r .1) written codes (omega (arith, c .position-length2 .ensures .0, length-global (start .args .previous) (r .0 .0) written codes)),
+          told start _ (r .1) written codes (omega (
+            arith,
+            c .position-length2 .ensures .0,
+            length-global (start .args .previous) (r .0 .0) written codes,
+          )),
       omega (arith, c .position-length2 .ensures .1),
     )
 
@@ -113,16 +127,27 @@ returns-3 c =
     let start = c .before .before .before .before .before .before .before in
     let left = c .before .before .before .size8 .ensures .0 in
     let right = c .before .before .size82 .ensures .0 in
-    let packed = c .packed-length2 .ensures ∙ ap₂ (λ (l m : ℕ). packedLength 4 (l + m)) left right in (
+    let packed = c .packed-length2 .ensures ∙ ap₂ (λ (l m : ℕ). packedLength 4 (l + m)) left
+    right in (
       λ written codes many size.
           told start _ (r .1) written codes
           (omega (
             arith,
             c .before .position-length3 .ensures .0,
             length-with-ends (start .args .previous) (r .0 .0) written codes
-                (omega (arith, subst (λ (k : Record). KindFits k (start .args .size)) (r .1) (start .pre .0) .clips)),
+                (omega (
+                  arith,
+                  subst (λ (k : Record). KindFits k (start .args .size)) (r .1)
+                      (start .pre .0) .clips,
+                )),
           )),
-      omega (arith, c .packed-length2 .ensures, c .before .before .before .size8 .ensures .1, c .before .before .size82 .ensures .1, c .before .position-length3 .ensures .1),
+      omega (
+        arith,
+        c .packed-length2 .ensures,
+        c .before .before .before .size8 .ensures .1,
+        c .before .before .size82 .ensures .1,
+        c .before .position-length3 .ensures .1,
+      ),
     )
 
 returns-4 : tie.Need-returns-4
@@ -131,7 +156,15 @@ returns-4 c =
     let start = c .before .before .before in (
       λ written codes many size.
           told start _ (c .before .enum-told .given .1) written codes
-          (omega (arith, c .packed-length22 .ensures, ap length (raw-fields (start .args .previous) written codes), length-raw codes, ap (packedLength 4) size)),
+          (omega (
+            arith,
+            c .packed-length22 .ensures,
+            ap length
+                (raw-fields (start .args .previous) written codes),
+            length-raw codes,
+            ap (packedLength 4)
+                size,
+          )),
       omega (arith, c .packed-length22 .ensures),
     )
 
@@ -141,7 +174,15 @@ returns-5 c =
     let start = c .before .before .before in (
       λ written codes many size.
           told start _ (c .before .enum-told2 .given .1) written codes
-          (omega (arith, c .packed-length4 .ensures, ap length (raw4-fields (start .args .previous) written codes), length-raw4 codes, ap (packedLength 2) size)),
+          (omega (
+            arith,
+            c .packed-length4 .ensures,
+            ap length
+                (raw4-fields (start .args .previous) written codes),
+            length-raw4 codes,
+            ap
+                (packedLength 2) size,
+          )),
       omega (arith, c .packed-length4 .ensures),
     )
 

@@ -10,12 +10,18 @@ step-fits-requires : tie.Need-step-fits-requires
 step-fits-requires c κs = search needs
 
 returns : tie.Need-returns
-returns c =
-    (step-length (c .before .before .args .previous) (c .before .before .args .position) (sym (c .before .step-fits .ensures) ∙ c .if1 .taken), omega arith)
+returns c = (
+  step-length (c .before .before .args .previous) (c .before .before .args .position)
+      (sym (c .before .step-fits .ensures) ∙ c .if1 .taken),
+  omega arith,
+)
 
 returns-2 : tie.Need-returns-2
-returns-2 c =
-    (full-length (c .before .before .args .previous) (c .before .before .args .position) (sym (c .before .step-fits .ensures) ∙ c .if1 .left), omega arith)
+returns-2 c = (
+  full-length (c .before .before .args .previous) (c .before .before .args .position)
+      (sym (c .before .step-fits .ensures) ∙ c .if1 .left),
+  omega arith,
+)
 
 pub position-length-spec : {M : Type 1} → statement M
 position-length-spec = tie.close (tie.spec step-fits-requires returns returns-2)

@@ -46,7 +46,8 @@ returns c =
     let start = first .before .before .before .before in
     let a = start .args in (
       aligned-written (a .bit) (a .previous) (a .position) (a .list .now) (a .entries) (a .out .now)
-          (a .at) (start .pre .1) _ _ (first .put-position .result) (first .put-position .ensures .0)
+          (a .at) (start .pre .1) _ _ (first .put-position .result)
+          (first .put-position .ensures .0)
           (first .put-position .ensures .1) (second .put-entries .ensures .0),
       omega (arith, first .put-position .ensures .1, second .put-entries .ensures .1),
     )

@@ -46,7 +46,8 @@ loop-again c =
     let a = c .before .before .before .args in
     let l = c .before .before .loop in (
       omega arith,
-      pasted-turn (a .out .now) (a .at) (λ i. getD (a .list .now) i 0) (l .out) (l .k) _ (omega arith) (l .inv .1) refl,
+      pasted-turn (a .out .now) (a .at) (λ i. getD (a .list .now) i 0) (l .out) (l .k) _
+          (omega arith) (l .inv .1) refl,
       simp length-set (l .inv .2),
     )
 
@@ -62,7 +63,8 @@ returns c =
     let l = c .before .loop in
     let all : l .k ≡ a .entries = omega arith in (
       l .inv .1
-          ∙ ap (λ (n : ℕ). pasted (a .out .now) (a .at) (build n (λ i. getD (a .list .now) i 0))) all
+          ∙ ap (λ (n : ℕ). pasted (a .out .now) (a .at) (build n (λ i. getD (a .list .now) i 0)))
+          all
           ∙ ap (pasted (a .out .now) (a .at))
           (build-part (a .list .now) 0 (a .entries) _ (omega arith)
           (λ k h. ap (λ (i : ℕ). getD (a .list .now) i 0) (sym (zero-add k)))),

@@ -12,7 +12,8 @@ use Rattle.dna.specs.declared.Placement.{Placement}
 use Rattle.dna.specs.declared.Record.{Record}
 use Rattle.dna.specs.declared.Record.the-variants as kinds
 use Rattle.letter_packing.specs.Read.{codesIn}
-use Rattle.record_writer.specs.Written.{fieldsWritten, positionBytes, alignedBytes, localBytes}
+use Rattle.record_writer.specs.Written.{fieldsWritten, positionBytes, alignedBytes}
+use Rattle.record_writer.specs.Written.{localBytes}
 use Rattle.record_writer.specs.Written.{rawBytes, raw4Bytes, KindFits}
 use Rattle.record_writer.proofs.FieldLaws.{perfect-fields, global-fields, local-fields}
 use Rattle.record_writer.proofs.FieldLaws.{raw-fields, raw4-fields, length-aligned}
@@ -55,7 +56,8 @@ raw4 c = raw4-fields (c .args .previous) (entries c) (codes c)
 
 -- How many bytes a global record takes.
 many : (c : tie.Start) (p : Placement)
-    → length (alignedBytes 4 (c .args .previous) (p .position) (c .args .list .now) (c .args .entries))
+    → length (alignedBytes 4 (c .args .previous) (p .position) (c .args .list .now)
+    (c .args .entries))
     ≡ 1 + length (positionBytes (c .args .previous) (p .position)) + c .args .entries
 many c p =
     length-aligned 4 (c .args .previous) (p .position) (c .args .list .now) (c .args .entries)
@@ -159,8 +161,15 @@ returns-2 c =
     let p = put .before .before .before in
     let start = p .before .before .before .before .before in
     let is = p .record2 .given in
-    written start _ _ (is .1) (global start (is .0 .0)) _ _
-    (put .put-aligned .ensures .0, omega (arith, put .put-aligned .ensures .1, many start (is .0 .0)))
+    written start _ _ (is .1) (global start (is .0 .0)) _ _ (
+      put .put-aligned .ensures .0,
+      omega (
+        arith,
+        put .put-aligned .ensures .1,
+        many start
+            (is .0 .0),
+      ),
+    )
 
 same-length-3 : tie.Need-same-length-3
 same-length-3 c = search needs

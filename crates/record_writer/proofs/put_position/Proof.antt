@@ -4,7 +4,8 @@ use mathlib.Core.Bool.{true, false}
 use native.Mathlib.Omega.{arith}
 use borrow.Author.Needs.{needs}
 use Rattle.format.specs.RuleRecord.{stepFits}
-use Rattle.record_writer.proofs.PositionLaws.{step-low, step-small, step-length, step-written}
+use Rattle.record_writer.proofs.PositionLaws.{step-low, step-small, step-length}
+use Rattle.record_writer.proofs.PositionLaws.{step-written}
 use Rattle.record_writer.proofs.PositionLaws.{full-length, full-written}
 use Rattle.record_writer.proofs.put_position.Statement.{statement}
 use Rattle.record_writer.proofs.put_position.Tie as tie

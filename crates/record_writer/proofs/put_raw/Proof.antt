@@ -11,7 +11,11 @@ slice-write-out : tie.Need-slice-write-out
 slice-write-out c =
     let start = c .before .before in
     let a = start .args in
-    omega (arith, raw-room (a .letters .now) (a .from) (a .to) (start .pre .0) (a .out .now) (a .at) (start .pre .1))
+    omega (
+      arith,
+      raw-room (a .letters .now) (a .from) (a .to) (start .pre .0) (a .out .now) (a .at)
+          (start .pre .1),
+    )
 
 sub-put-ends : tie.Need-sub-put-ends
 sub-put-ends c = search needs
@@ -23,7 +27,8 @@ put-ends-requires : tie.Need-put-ends-requires
 put-ends-requires c κs =
     let start = c .before .before .before in
     let a = start .args in
-    let room = raw-room (a .letters .now) (a .from) (a .to) (start .pre .0) (a .out .now) (a .at) (start .pre .1) in
+    let room = raw-room (a .letters .now) (a .from) (a .to) (start .pre .0) (a .out .now) (a .at)
+    (start .pre .1) in
     ((start .pre .0, omega arith), simp length-set room)
 
 same-length : tie.Need-same-length
@@ -33,7 +38,8 @@ returns : tie.Need-returns
 returns c =
     let start = c .before .before .before .before .before .before in
     let a = start .args in
-    raw-written (a .letters .now) (a .from) (a .to) (start .pre .0) (a .out .now) (a .at) _ _ (start .pre .1)
+    raw-written (a .letters .now) (a .from) (a .to) (start .pre .0) (a .out .now) (a .at) _ _
+    (start .pre .1)
     (c .before .before .put-ends .ensures .0) (c .before .before .put-ends .ensures .1)
 
 pub put-raw-spec : {M : Type 1} → statement M

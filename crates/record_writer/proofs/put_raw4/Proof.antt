@@ -11,7 +11,11 @@ slice-write-out : tie.Need-slice-write-out
 slice-write-out c =
     let start = c .before .before in
     let a = start .args in
-    omega (arith, raw4-room (a .letters .now) (a .from) (a .to) (start .pre .0) (a .out .now) (a .at) (start .pre .1))
+    omega (
+      arith,
+      raw4-room (a .letters .now) (a .from) (a .to) (start .pre .0) (a .out .now)
+          (a .at) (start .pre .1),
+    )
 
 add-put-pairs : tie.Need-add-put-pairs
 add-put-pairs c = search needs
@@ -20,7 +24,8 @@ put-pairs-requires : tie.Need-put-pairs-requires
 put-pairs-requires c κs =
     let start = c .before .before .before in
     let a = start .args in
-    let room = raw4-room (a .letters .now) (a .from) (a .to) (start .pre .0) (a .out .now) (a .at) (start .pre .1) in
+    let room = raw4-room (a .letters .now) (a .from) (a .to) (start .pre .0) (a .out .now) (a .at)
+    (start .pre .1) in
     (start .pre .0, simp length-set room)
 
 same-length : tie.Need-same-length
@@ -30,7 +35,8 @@ returns : tie.Need-returns
 returns c =
     let start = c .before .before .before .before .before .before in
     let a = start .args in
-    raw4-written (a .letters .now) (a .from) (a .to) (start .pre .0) (a .out .now) (a .at) _ _ (start .pre .1)
+    raw4-written (a .letters .now) (a .from) (a .to) (start .pre .0) (a .out .now) (a .at) _ _
+    (start .pre .1)
     (c .before .before .put-pairs .ensures .0) (c .before .before .put-pairs .ensures .1)
 
 pub put-raw4-spec : {M : Type 1} → statement M

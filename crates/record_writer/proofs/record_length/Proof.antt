@@ -18,10 +18,17 @@ list-stored-requires : tie.Need-list-stored-requires
 list-stored-requires c κs = search needs
 
 n-list-length-requires : tie.Need-n-list-length-requires
-n-list-length-requires c κs = stored-fits (c .before .before .before .before .pre) (sym (c .before .list-stored .ensures) ∙ c .if1 .taken)
+n-list-length-requires c κs =
+    stored-fits (c .before .before .before .before .pre)
+    (sym (c .before .list-stored .ensures) ∙ c .if1 .taken)
 
 add-result : tie.Need-add-result
-add-result c = omega (arith, c .before .before .before .fields-length .ensures .1, c .n-list-length .ensures .1)
+add-result c =
+    omega (
+      arith,
+      c .before .before .before .fields-length .ensures .1,
+      c .n-list-length .ensures .1,
+    )
 
 returns : tie.Need-returns
 returns c =
@@ -32,9 +39,12 @@ returns c =
     λ written many.
     omega (
       arith,
-      c .before .before .before .fields-length .ensures .0 written (codesIn (a .letters .now) (a .from) (a .to)) many size,
+      c .before .before .before .fields-length .ensures .0 written
+          (codesIn (a .letters .now) (a .from) (a .to)) many size,
       c .n-list-length .ensures .0,
-      length-with (a .previous) written (codesIn (a .letters .now) (a .from) (a .to)) (a .count) (start .pre .counted) (a .«record») (sym (c .before .before .list-stored .ensures) ∙ c .before .if1 .taken),
+      length-with (a .previous) written (codesIn (a .letters .now) (a .from) (a .to)) (a .count)
+          (start .pre .counted) (a .«record») (sym (c .before .before .list-stored .ensures)
+          ∙ c .before .if1 .taken),
     )
 
 returns-2 : tie.Need-returns-2
@@ -44,8 +54,11 @@ returns-2 c =
     let lies = start .pre .lies in
     let size = length-codesIn (a .letters .now) (a .from) (a .to) (lies .ordered) (lies .inside) in
     λ written many.
-    c .before .before .fields-length .ensures .0 written (codesIn (a .letters .now) (a .from) (a .to)) many size
-    ∙ sym (length-without (a .previous) written (codesIn (a .letters .now) (a .from) (a .to)) (a .count) (start .pre .counted) (a .«record») (sym (c .before .list-stored .ensures) ∙ c .if1 .left))
+    c .before .before .fields-length .ensures .0 written
+    (codesIn (a .letters .now) (a .from) (a .to)) many size
+    ∙ sym (length-without (a .previous) written (codesIn (a .letters .now) (a .from) (a .to))
+    (a .count) (start .pre .counted) (a .«record») (sym (c .before .list-stored .ensures)
+    ∙ c .if1 .left))
 
 pub record-length-spec : {M : Type 1} → statement M
 record-length-spec =
