@@ -23,9 +23,9 @@ use Rattle.letter_packing.specs.Read.{endCodes}
 use Rattle.letter_packing.proofs.ReadLaws.{length-endCodes}
 use Rattle.letter_packing.proofs.PieceLaws.{packed-padded}
 use Rattle.record_writer.specs.Written.{fieldsFor, incrementalFor, recordWritten}
-use Rattle.record_writer.specs.Written.{fieldsWritten, positionBytes, alignedBytes}
-use Rattle.record_writer.specs.Written.{localBytes}
-use Rattle.record_writer.specs.Written.{rawBytes, raw4Bytes}
+use Rattle.record_writer.specs.Written.{fieldsWritten}
+use Rattle.record_writer.specs.Parts.{positionBytes, alignedBytes, localBytes, rawBytes}
+use Rattle.record_writer.specs.Parts.{raw4Bytes}
 
 -- ---- Entries
 

@@ -12,7 +12,8 @@ use Rattle.dna.specs.declared.Record.the-variants as kinds
 use Rattle.format.specs.RuleRecord.{padded}
 use Rattle.letter_packing.specs.Read.{endCodes}
 use Rattle.record_writer.specs.Written.{fieldsFor, incrementalFor, recordWritten}
-use Rattle.record_writer.specs.Written.{fieldsWritten, positionBytes}
+use Rattle.record_writer.specs.Written.{fieldsWritten}
+use Rattle.record_writer.specs.Parts.{positionBytes}
 use Rattle.record_writer.proofs.FieldLaws.{length-ends}
 
 module _ (previous : ℕ) (placement : Placement) (entries : List Entry) (codes : List ℕ) where

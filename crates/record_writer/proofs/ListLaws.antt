@@ -18,11 +18,12 @@ use Rattle.dna.specs.declared.Record.the-variants as kinds
 use Rattle.format.specs.RuleRecord.{nOffsetsOf, Written}
 use Rattle.format.proofs.WrittenRecord.{n-none, n-some}
 use Rattle.record_writer.specs.Written.{fieldsFor, offsetsFor, incrementalFor, recordWritten}
+use Rattle.record_writer.specs.Written.{fieldsWritten, writtenBytes}
+use Rattle.record_writer.specs.Writable.{listStored, Writable}
 use Rattle.n_lists.specs.NPlaces.{NListFits}
-use Rattle.record_writer.specs.Written.{fieldsWritten, writtenBytes, listStored, Writable}
 
--- There is an N exactly if there is an offset.
-n-counted : (codes : List ℕ) (count : ℕ) → count ≡ length (nOffsetsOf codes)
+-- The with-N bit: there is an N exactly if one is counted.
+pub n-counted : (codes : List ℕ) (count : ℕ) → count ≡ length (nOffsetsOf codes)
     → member codeN codes ≡ ltb 0 count
 n-counted codes count is =
     by-test (member codeN codes)

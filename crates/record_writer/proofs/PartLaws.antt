@@ -13,8 +13,8 @@ use Rattle.dna.specs.declared.Placement.{Placement}
 use Rattle.format.specs.RuleRecord.{padded}
 use Rattle.letter_packing.specs.Read.{ReadLies, codesIn, endCodes}
 use Rattle.letter_packing.proofs.ReadLaws.{length-codesIn, endCodes-whole}
-use Rattle.record_writer.specs.Written.{positionBytes, alignedBytes, localBytes, rawBytes}
-use Rattle.record_writer.specs.Written.{raw4Bytes}
+use Rattle.record_writer.specs.Parts.{positionBytes, alignedBytes, localBytes, rawBytes}
+use Rattle.record_writer.specs.Parts.{raw4Bytes}
 use Rattle.record_writer.proofs.FieldLaws.{length-aligned, length-local, length-raw}
 use Rattle.record_writer.proofs.FieldLaws.{length-raw4}
 

@@ -1,18 +1,25 @@
 -- A position as a step or by itself. Assumes nothing.
-use mathlib.Core.Path.{_≡_, sym, ap, _∙_}
+use mathlib.Core.Path.{_≡_, refl, sym, ap, _∙_}
 use Prim.Native.Nat.{ℕ, _+_, _-_, _≤_, _<_}
 use native.Mathlib.Omega.{arith}
-use mathlib.Core.Bool.{Bool, true, false, _&&_}
+use mathlib.Core.Bool.{Bool, true, false, cond, _&&_}
 use mathlib.Core.List.{List}
 use lib.ListN.{length}
 use lib.Dec.{leb}
 use borrow.Author.Tests.{leb-true, le-leb, lt-leb}
 use Rattle.base.specs.Numbers.{leBytes}
 use Rattle.base.specs.Paste.{pasted}
+use Rattle.base.proofs.ListLaws.{by-test}
 use Rattle.base.proofs.NumberLaws.{length-leBytes}
 use Rattle.base.proofs.Tests.{and-both}
+use Rattle.dna.specs.Record.{Entry}
+use Rattle.dna.specs.Alignment.{isAligned, fieldOf, position, positionAfter}
+use Rattle.dna.specs.declared.Record.{Record}
+use Rattle.dna.specs.declared.Record.the-variants as kinds
 use Rattle.format.specs.RuleRecord.{maxStep, stepFits, fieldFor}
-use Rattle.record_writer.specs.Written.{positionBytes}
+use Rattle.record_writer.specs.Written.{fieldsFor, incrementalFor, positionFor}
+use Rattle.record_writer.specs.Written.{recordWritten}
+use Rattle.record_writer.specs.Parts.{positionBytes}
 
 module _ (previous position : ℕ) where
   -- ---- Whether a step fits
@@ -66,3 +73,30 @@ module _ (previous position : ℕ) where
         × (at + 4 ≡ at + length (positionBytes previous position))
     full-written out new at written =
         (written ∙ ap (pasted out at) (sym full-bytes), omega (arith, full-length))
+
+-- ---- The position that the next read's step adds to
+
+-- A step leads to the position, and so does the position by itself.
+position-back : (previous at : ℕ)
+    → cond (stepFits previous at) previous 0 + fieldFor previous at ≡ at
+unfolding fieldFor
+position-back previous at =
+    by-test (stepFits previous at)
+    (λ t. rw t (omega (arith, step-low previous at t)))
+    (λ t. rw t (omega arith))
+
+pub position-written : (bases previous : ℕ) (record′ : Record) (entries : List Entry)
+    (codes : List ℕ)
+    → positionAfter (recordWritten bases previous record′ entries codes .context)
+    (recordWritten bases previous record′ entries codes .stored .fields)
+    ≡ positionFor previous record′
+unfolding positionAfter position isAligned fieldOf recordWritten fieldsFor incrementalFor
+    positionFor
+position-written bases previous (kinds.Perfect placement) entries codes =
+    position-back previous (placement .position)
+position-written bases previous (kinds.Global placement) entries codes =
+    position-back previous (placement .position)
+position-written bases previous (kinds.Local placement) entries codes =
+    position-back previous (placement .position)
+position-written bases previous kinds.Raw entries codes = refl
+position-written bases previous kinds.Raw4 entries codes = refl

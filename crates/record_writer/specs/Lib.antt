@@ -1,2 +1,4 @@
 pub mod Written
+pub mod Parts
+pub mod Writable
 pub mod Chosen

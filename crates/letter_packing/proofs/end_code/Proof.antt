@@ -34,8 +34,10 @@ returns-2 : tie.Need-returns-2
 unfolding baseIn
 returns-2 c =
     let a = c .before .before .before .before .before .args in (
-      c .base-of-letter .ensures .0 ∙ sym (ends-left (a .letters .now) (a .from) (a .to) (a .left)
-          (a .right) (omega arith) (omega arith) (omega arith) (a .k) (c .before .before .if2 .taken)),
+      c .base-of-letter .ensures .0
+          ∙ sym
+          (ends-left (a .letters .now) (a .from) (a .to) (a .left) (a .right) (omega arith)
+          (omega arith) (omega arith) (a .k) (c .before .before .if2 .taken)),
       c .base-of-letter .ensures .1,
     )
 
@@ -61,8 +63,10 @@ returns-3 : tie.Need-returns-3
 unfolding baseIn
 returns-3 c =
     let a = c .before .before .before .before .before .args in (
-      c .base-of-letter2 .ensures .0 ∙ sym (ends-right (a .letters .now) (a .from) (a .to) (a .left)
-          (a .right) (omega arith) (omega arith) (omega arith) (a .k) _ (c .before .before .if2 .left)
+      c .base-of-letter2 .ensures .0
+          ∙ sym
+          (ends-right (a .letters .now) (a .from) (a .to) (a .left) (a .right) (omega arith)
+          (omega arith) (omega arith) (a .k) _ (c .before .before .if2 .left)
           (c .before .before .before .if1 .left) refl),
       c .base-of-letter2 .ensures .1,
     )

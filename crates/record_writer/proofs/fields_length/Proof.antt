@@ -8,7 +8,8 @@ use borrow.Author.Needs.{needs}
 use Rattle.base.specs.Packed.{packedLength}
 use Rattle.dna.specs.Record.{Entry}
 use Rattle.dna.specs.declared.Record.{Record}
-use Rattle.record_writer.specs.Written.{fieldsWritten, KindFits}
+use Rattle.record_writer.specs.Written.{fieldsWritten}
+use Rattle.record_writer.specs.Writable.{KindFits}
 use Rattle.record_writer.proofs.FieldLaws.{perfect-fields, raw-fields, raw4-fields}
 use Rattle.record_writer.proofs.FieldLaws.{length-raw, length-raw4}
 use Rattle.record_writer.proofs.LengthLaws.{length-global, length-with-ends}

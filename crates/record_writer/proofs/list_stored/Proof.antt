@@ -1,6 +1,6 @@
 -- `record_writer::list_stored` meets its contract. Assumes nothing.
 use borrow.Author.Needs.{needs}
-use Rattle.record_writer.specs.Written.{listStored}
+use Rattle.record_writer.specs.Writable.{listStored}
 use Rattle.record_writer.proofs.list_stored.Statement.{statement}
 use Rattle.record_writer.proofs.list_stored.Tie as tie
 

@@ -12,9 +12,10 @@ use Rattle.dna.specs.declared.Placement.{Placement}
 use Rattle.dna.specs.declared.Record.{Record}
 use Rattle.dna.specs.declared.Record.the-variants as kinds
 use Rattle.letter_packing.specs.Read.{codesIn}
-use Rattle.record_writer.specs.Written.{fieldsWritten, positionBytes, alignedBytes}
-use Rattle.record_writer.specs.Written.{localBytes}
-use Rattle.record_writer.specs.Written.{rawBytes, raw4Bytes, KindFits}
+use Rattle.record_writer.specs.Written.{fieldsWritten}
+use Rattle.record_writer.specs.Parts.{positionBytes, alignedBytes, localBytes, rawBytes}
+use Rattle.record_writer.specs.Parts.{raw4Bytes}
+use Rattle.record_writer.specs.Writable.{KindFits}
 use Rattle.record_writer.proofs.FieldLaws.{perfect-fields, global-fields, local-fields}
 use Rattle.record_writer.proofs.FieldLaws.{raw-fields, raw4-fields, length-aligned}
 use Rattle.record_writer.proofs.put_fields.Statement.{statement}

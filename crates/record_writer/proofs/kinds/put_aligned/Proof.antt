@@ -1,11 +1,11 @@
--- `record_writer::put_aligned` meets its contract. Assumes nothing.
+-- `record_writer::kinds::put_aligned` meets its contract. Assumes nothing.
 use mathlib.Core.Path.{_∙_}
 use native.Mathlib.Omega.{arith}
 use lib.ListN.{length-set}
 use borrow.Author.Needs.{needs}
 use Rattle.record_writer.proofs.PartLaws.{aligned-written}
-use Rattle.record_writer.proofs.put_aligned.Statement.{statement}
-use Rattle.record_writer.proofs.put_aligned.Tie as tie
+use Rattle.record_writer.proofs.kinds.put_aligned.Statement.{statement}
+use Rattle.record_writer.proofs.kinds.put_aligned.Tie as tie
 
 cast-out : tie.Need-cast-out
 cast-out c = search needs

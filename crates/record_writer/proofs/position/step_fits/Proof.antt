@@ -1,7 +1,7 @@
--- `record_writer::step_fits` meets its contract. Assumes nothing.
+-- `record_writer::position::step_fits` meets its contract. Assumes nothing.
 use Rattle.record_writer.proofs.PositionLaws.{step-back, step-on}
-use Rattle.record_writer.proofs.step_fits.Statement.{statement}
-use Rattle.record_writer.proofs.step_fits.Tie as tie
+use Rattle.record_writer.proofs.position.step_fits.Statement.{statement}
+use Rattle.record_writer.proofs.position.step_fits.Tie as tie
 
 returns : tie.Need-returns
 returns c = step-back (c .before .args .previous) (c .before .args .position) (c .if1 .taken)

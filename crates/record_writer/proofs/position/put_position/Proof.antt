@@ -1,4 +1,4 @@
--- `record_writer::put_position` meets its contract. Assumes nothing.
+-- `record_writer::position::put_position` meets its contract. Assumes nothing.
 use mathlib.Core.Path.{_≡_, sym, _∙_}
 use mathlib.Core.Bool.{true, false}
 use native.Mathlib.Omega.{arith}
@@ -7,8 +7,8 @@ use Rattle.format.specs.RuleRecord.{stepFits}
 use Rattle.record_writer.proofs.PositionLaws.{step-low, step-small, step-length}
 use Rattle.record_writer.proofs.PositionLaws.{step-written}
 use Rattle.record_writer.proofs.PositionLaws.{full-length, full-written}
-use Rattle.record_writer.proofs.put_position.Statement.{statement}
-use Rattle.record_writer.proofs.put_position.Tie as tie
+use Rattle.record_writer.proofs.position.put_position.Statement.{statement}
+use Rattle.record_writer.proofs.position.put_position.Tie as tie
 
 step-fits-requires : tie.Need-step-fits-requires
 step-fits-requires c κs = search needs

@@ -1,10 +1,10 @@
--- `record_writer::position_length` meets its contract. Assumes nothing.
+-- `record_writer::position::position_length` meets its contract. Assumes nothing.
 use mathlib.Core.Path.{sym, _∙_}
 use native.Mathlib.Omega.{arith}
 use borrow.Author.Needs.{needs}
 use Rattle.record_writer.proofs.PositionLaws.{step-length, full-length}
-use Rattle.record_writer.proofs.position_length.Statement.{statement}
-use Rattle.record_writer.proofs.position_length.Tie as tie
+use Rattle.record_writer.proofs.position.position_length.Statement.{statement}
+use Rattle.record_writer.proofs.position.position_length.Tie as tie
 
 step-fits-requires : tie.Need-step-fits-requires
 step-fits-requires c κs = search needs

@@ -1,4 +1,4 @@
--- `record_writer::put_entries` meets its contract. Assumes nothing.
+-- `record_writer::kinds::put_entries` meets its contract. Assumes nothing.
 use mathlib.Core.Path.{_≡_, refl, sym, ap, _∙_}
 use Prim.Native.Nat.{ℕ, _-_, _≤_}
 use native.Mathlib.Nat.{zero-add}
@@ -9,8 +9,8 @@ use Rattle.base.specs.Lists.{build}
 use Rattle.base.specs.Paste.{pasted}
 use Rattle.base.proofs.PasteLaws.{pasted-nil, pasted-turn}
 use Rattle.letter_packing.proofs.PieceLaws.{build-part}
-use Rattle.record_writer.proofs.put_entries.Statement.{statement}
-use Rattle.record_writer.proofs.put_entries.Tie as tie
+use Rattle.record_writer.proofs.kinds.put_entries.Statement.{statement}
+use Rattle.record_writer.proofs.kinds.put_entries.Tie as tie
 
 abbrev Inv-loop : tie.InvT-loop
 Inv-loop list entries out₀ at k₀ out k =

@@ -1,11 +1,11 @@
--- `record_writer::put_raw4` meets its contract. Assumes nothing.
+-- `record_writer::kinds::put_raw4` meets its contract. Assumes nothing.
 use mathlib.Core.Path.{_∙_}
 use native.Mathlib.Omega.{arith}
 use lib.ListN.{length-set}
 use borrow.Author.Needs.{needs}
 use Rattle.record_writer.proofs.PartLaws.{raw4-room, raw4-written}
-use Rattle.record_writer.proofs.put_raw4.Statement.{statement}
-use Rattle.record_writer.proofs.put_raw4.Tie as tie
+use Rattle.record_writer.proofs.kinds.put_raw4.Statement.{statement}
+use Rattle.record_writer.proofs.kinds.put_raw4.Tie as tie
 
 slice-write-out : tie.Need-slice-write-out
 slice-write-out c =

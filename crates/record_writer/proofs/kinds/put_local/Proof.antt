@@ -1,4 +1,4 @@
--- `record_writer::put_local` meets its contract. Assumes nothing.
+-- `record_writer::kinds::put_local` meets its contract. Assumes nothing.
 use mathlib.Core.Path.{ap₂, _∙_}
 use Prim.Native.Nat.{ℕ, _+_, _≤_}
 use native.Mathlib.Omega.{arith}
@@ -7,10 +7,10 @@ use borrow.Author.Needs.{needs}
 use Rattle.base.specs.Packed.{packedLength}
 use Rattle.letter_packing.specs.Read.{codesIn}
 use Rattle.letter_packing.proofs.ReadLaws.{length-codesIn}
-use Rattle.record_writer.specs.Written.{positionBytes}
+use Rattle.record_writer.specs.Parts.{positionBytes}
 use Rattle.record_writer.proofs.PartLaws.{local-room, local-written}
-use Rattle.record_writer.proofs.put_local.Statement.{statement}
-use Rattle.record_writer.proofs.put_local.Tie as tie
+use Rattle.record_writer.proofs.kinds.put_local.Statement.{statement}
+use Rattle.record_writer.proofs.kinds.put_local.Tie as tie
 
 -- The ends lie within the read.
 clips : (c : tie.Start) → c .args .placement .left + c .args .placement .right
