@@ -89,8 +89,8 @@ fn put_full_bytes(letters: &[u8], start: usize, count: usize, out: &mut [u8], at
     }
 }
 
-// The byte of the four letters from index i on. The code of a letter is in its bits 1 to 3: with
-// bits 2 and 3 added to 1 and 2 without carry, A, C, G, T are 0, 1, 2, 3 and N is 0.
+// The byte of the four letters from index i on, which are read as one word. Half of a letter xor a
+// quarter of it ends in two bits that are its code: 0, 1, 2, 3 of A, C, G, T, and 0 of N.
 fn full_byte(letters: &[u8], i: usize) -> u8
     requires { ⌜ ReadLies (now letters) i (i + 4) ⌝ }
     ensures { λ r. ⌜ r ≡ byteOf 4 4 (λ k. baseIn (now (letters .entry)) (i + k)) ⌝ }
@@ -195,7 +195,8 @@ fn pair_byte(letters: &[u8], i: usize) -> u8
     ((codes * 16 + codes / 256) % 256) as u8
 }
 
-// The code of a letter: its bits 1 to 3, with bits 2 and 3 added to 1 and 2 without carry.
+// The code of a letter: half of it xor the last two bits of its quarter ends in three bits that are
+// 0 to 4 of A, C, G, T, N.
 pub fn code_of_letter(letter: u8) -> u8
     requires { ⌜ member letter alphabet ≡ true ⌝ }
     ensures { λ r. ⌜ (r ≡ codeOfLetter letter) × (r < 5) ⌝ }

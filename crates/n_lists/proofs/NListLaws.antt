@@ -1,6 +1,6 @@
 -- The bytes of an N list, offset by offset. Assumes nothing.
 use mathlib.Core.Path.{_≡_, refl, sym, ap, ap₂, _∙_}
-use Prim.Native.Nat.{ℕ, suc, _+_, _-_, _*_, _≤_, _<_}
+use Prim.Native.Nat.{ℕ, suc, _+_, _-_, _*_, _≤_}
 use native.Mathlib.Omega.{arith}
 use mathlib.Core.List.{List, [], _∷_, _++_, flatMap}
 use lib.ListN.{length, getD, set, length-append, length-set}
@@ -18,7 +18,7 @@ use Rattle.dna.proofs.SizeBytesLaws.{length-varint16}
 use Rattle.format.specs.RuleRecord.{nOffsetsOf}
 use Rattle.letter_packing.specs.Read.{codesIn}
 use Rattle.letter_packing.proofs.ReadLaws.{length-codesIn}
-use Rattle.n_lists.specs.NPlaces.{nPlaces, NListFits}
+use Rattle.n_lists.specs.NPlaces.{nPlaces, NCounted}
 use Rattle.n_lists.proofs.NPlaceLaws.{First, offsets-places, count-offsets}
 
 -- The bytes of the offsets to some places, the first from `before`.
@@ -37,7 +37,7 @@ steps-none before places none = ap (stepBytes before) (no-length places none)
 
 -- ---- Writing
 
-module _ (letters : List ℕ) (from to count : ℕ) (fits : NListFits letters from to count) where
+module _ (letters : List ℕ) (from to count : ℕ) (fits : NCounted letters from to count) where
   abbrev bytes : List ℕ
   bytes = nListBytes (nOffsetsOf (codesIn letters from to))
 
@@ -127,7 +127,7 @@ short-steps start low bound (place ∷ places) above near rise =
       short-steps place (suc place) bound places (omega arith) (omega (arith, rise .0)) (rise .2),
     )
 
-pub short-list : (letters : List ℕ) (from to count : ℕ) → NListFits letters from to count
+pub short-list : (letters : List ℕ) (from to count : ℕ) → NCounted letters from to count
     → to - from ≤ 32768
     → 1 + 2 * count ≡ length (nListBytes (nOffsetsOf (codesIn letters from to)))
 unfolding nListBytes nOffsetsOf

@@ -2,15 +2,14 @@
 -- nothing.
 use mathlib.Core.Path.{_≡_, refl, sym, ap, ap₂, _∙_, subst}
 use Prim.Native.Nat.{ℕ, zero, suc, _+_, _-_, _≤_, _<_}
-use native.Mathlib.Nat.{not-suc-le-zero}
 use native.Mathlib.Omega.{arith}
 use mathlib.Core.Bool.{Bool, true, false, cond}
-use mathlib.Core.List.{List, [], _∷_, _++_, map}
-use lib.ListN.{length, getD, length-append}
+use mathlib.Core.List.{List, [], _∷_, map}
+use lib.ListN.{length, getD}
 use lib.Dec.{eqb}
-use borrow.Author.Tests.{eqb-true, ne-eqb}
+use borrow.Author.Tests.{ne-eqb}
 use Rattle.base.specs.Lists.{build, indexOf, keep, placesWhere, stepsFrom}
-use Rattle.base.proofs.ListLaws.{by-test, by-order, length-build, build-cong, build-append}
+use Rattle.base.proofs.ListLaws.{by-test, build-cong}
 use Rattle.base.proofs.StepsLaws.{length-stepsFrom}
 use Rattle.dna.specs.Reference.{codeN}
 use Rattle.format.specs.RuleRecord.{nOffsetsOf}

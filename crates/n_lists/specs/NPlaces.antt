@@ -22,7 +22,7 @@ abbrev pub chunkSize : ℕ
 chunkSize = 192
 
 -- A read with `count` letters N, no more than a list may name.
-pub record NListFits (letters : List ℕ) (from to count : ℕ) : Type 0 where
+pub record NCounted (letters : List ℕ) (from to count : ℕ) : Type 0 where
   pub lies : ReadLies letters from to
   pub counted : count ≡ length (nOffsetsOf (codesIn letters from to))
   pub few : count ≤ maxNPositions

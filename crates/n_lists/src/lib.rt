@@ -17,7 +17,7 @@ ghost use Rattle.dna.specs.Record.{nListBytes};
 ghost use Rattle.format.specs.RuleRecord.{nOffsetsOf};
 ghost use Rattle.format.specs.RuleBlock.{codeOfLetter};
 ghost use Rattle.letter_packing.specs.Read.{codesIn};
-ghost use Rattle.n_lists.specs.NPlaces.{nPlaces, chunkSize, NListFits};
+ghost use Rattle.n_lists.specs.NPlaces.{nPlaces, chunkSize, NCounted};
 
 // The letter N.
 const LETTER_N: u8 = 78;
@@ -82,7 +82,7 @@ fn one_if_n(letter: u8) -> u8
 
 // How many bytes the N list of a read with `count` letters N takes.
 pub fn n_list_length(letters: &[u8], from: usize, to: usize, count: usize) -> usize
-    requires { ⌜ NListFits (now letters) from to count ⌝ }
+    requires { ⌜ NCounted (now letters) from to count ⌝ }
     ensures { λ r. ⌜ (r
         ≡ length (nListBytes (nOffsetsOf (codesIn (now (letters .entry)) from to))))
         × (r ≤ 2 ^ 23) ⌝ }
@@ -95,7 +95,7 @@ pub fn n_list_length(letters: &[u8], from: usize, to: usize, count: usize) -> us
 
 // The same for a read in which an offset can take more than one word.
 fn long_list_length(letters: &[u8], from: usize, to: usize, count: usize) -> usize
-    requires { ⌜ NListFits (now letters) from to count ⌝ }
+    requires { ⌜ NCounted (now letters) from to count ⌝ }
     ensures { λ r. ⌜ (r
         ≡ length (nListBytes (nOffsetsOf (codesIn (now (letters .entry)) from to))))
         × (r ≤ 2 ^ 23) ⌝ }
@@ -123,7 +123,7 @@ pub fn put_n_list(
     out: &mut [u8],
     at: usize,
 ) -> usize
-    requires { ⌜ NListFits (now letters) from to count ⌝ }
+    requires { ⌜ NCounted (now letters) from to count ⌝ }
     requires { ⌜ at + length (nListBytes (nOffsetsOf (codesIn (now letters) from to)))
         ≤ length (now out) ⌝ }
     ensures { λ r. ⌜ (now (out .exit) ≡ pasted (now (out .entry)) at
@@ -160,8 +160,8 @@ fn next_n(letters: &[u8], from: usize, to: usize) -> usize
     to
 }
 
-// A place before which there is no letter N: words of eight letters without one are passed over. Of
-// the five letters N alone has bit 3.
+// A place from `from` on before which there is no letter N: words of eight letters without one are
+// passed over. Of the five letters N alone has the bit of 8.
 fn skip_words(letters: &[u8], from: usize, to: usize) -> usize
     requires { ⌜ (from ≤ to) × (to ≤ length (now letters)) ⌝ }
     ensures { λ r. ⌜ (r ≤ to)

@@ -1,20 +1,17 @@
 -- The record of a candidate's choice is the one that the fixed rule writes. Assumes nothing.
-use mathlib.Core.Path.{_≡_, refl, sym, ap, _∙_}
+use mathlib.Core.Path.{_≡_, refl}
 use Prim.Native.Nat.{ℕ, _+_}
 use mathlib.Core.Bool.{Bool, true, false, cond}
 use mathlib.Core.List.{List}
 use lib.ListN.{length}
 use lib.Dec.{eqb}
 use Rattle.base.proofs.ListLaws.{by-test}
-use Rattle.dna.specs.Record.{Entry, RecordFields, perfect, global, local, recordBytes}
-use Rattle.dna.specs.declared.Strand.{Strand}
+use Rattle.dna.specs.Record.{Entry}
 use Rattle.dna.specs.declared.Strand.the-variants as strands
-use Rattle.dna.specs.declared.Record.{Record}
-use Rattle.dna.specs.declared.Record.the-variants as kinds
 use Rattle.format.specs.RuleRecord.{Candidate, alignedCount, clippedCodes, candidateEntries}
-use Rattle.format.specs.RuleRecord.{storedPosition, stepFits, alignedFields, Choice, chooseRaw4}
-use Rattle.format.specs.RuleRecord.{chooseAligned, chooseRaw, choiceFor, Written, isPerfect}
-use Rattle.format.specs.RuleRecord.{contextFor, writtenAs, written, nOffsetsOf}
+use Rattle.format.specs.RuleRecord.{storedPosition, alignedFields, Choice, chooseRaw4}
+use Rattle.format.specs.RuleRecord.{chooseAligned, chooseRaw, choiceFor, isPerfect}
+use Rattle.format.specs.RuleRecord.{writtenAs, written}
 use Rattle.letter_packing.specs.Read.{endCodes}
 use Rattle.record_writer.specs.Written.{fieldsFor, offsetsFor, isForward, forwardFor}
 use Rattle.record_writer.specs.Written.{incrementalFor, recordWritten}

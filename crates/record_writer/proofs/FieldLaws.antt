@@ -1,6 +1,6 @@
 -- The bytes of a record up to its N list, kind by kind, and their number. Assumes nothing.
 use mathlib.Core.Path.{_≡_, refl, sym, ap, ap₂, _∙_, subst}
-use Prim.Native.Nat.{ℕ, _+_, _-_, _*_, _≤_, _<_}
+use Prim.Native.Nat.{ℕ, _+_, _*_, _≤_, _<_}
 use native.Mathlib.Omega.{arith}
 use mathlib.Core.List.{List, _∷_, _++_, map, append-assoc}
 use lib.ListN.{length, take, length-append, length-map}
@@ -16,7 +16,6 @@ use Rattle.dna.specs.RecordAt.{entriesAt}
 use Rattle.dna.proofs.FieldLaws.{length-entries, length-entriesAt, entriesAt-entries}
 use Rattle.dna.proofs.FieldLaws.{entries-entriesAt}
 use Rattle.dna.specs.declared.Placement.{Placement}
-use Rattle.dna.specs.declared.Record.{Record}
 use Rattle.dna.specs.declared.Record.the-variants as kinds
 use Rattle.format.specs.RuleRecord.{padded, withoutN}
 use Rattle.letter_packing.specs.Read.{endCodes}

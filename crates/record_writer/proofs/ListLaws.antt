@@ -1,6 +1,6 @@
 -- The bytes of a record: its fields, then its N list where it has one. Assumes nothing.
-use mathlib.Core.Path.{_≡_, refl, sym, ap, ap₂, _∙_}
-use Prim.Native.Nat.{ℕ, _+_, _≤_, _<_}
+use mathlib.Core.Path.{_≡_, refl, sym, ap, _∙_}
+use Prim.Native.Nat.{ℕ, _+_, _≤_}
 use native.Mathlib.Omega.{arith}
 use mathlib.Core.Bool.{Bool, true, false, cond}
 use mathlib.Core.List.{List, [], _++_, append-nil}
@@ -10,17 +10,17 @@ use borrow.Author.Tests.{lt-ltb, le-ltb}
 use Rattle.base.specs.Lists.{member}
 use Rattle.base.specs.Paste.{pasted}
 use Rattle.base.proofs.ListLaws.{by-test}
-use Rattle.base.proofs.PasteLaws.{length-pasted, pasted-then}
+use Rattle.base.proofs.PasteLaws.{pasted-then}
 use Rattle.dna.specs.Reference.{codeN}
 use Rattle.dna.specs.Record.{Entry, fieldsBytes, fieldWidth, hasNList, nListBytes, recordBytes}
 use Rattle.dna.specs.declared.Record.{Record}
 use Rattle.dna.specs.declared.Record.the-variants as kinds
 use Rattle.format.specs.RuleRecord.{nOffsetsOf, Written}
 use Rattle.format.proofs.WrittenRecord.{n-none, n-some}
-use Rattle.record_writer.specs.Written.{fieldsFor, offsetsFor, incrementalFor, recordWritten}
+use Rattle.record_writer.specs.Written.{fieldsFor, offsetsFor, recordWritten}
 use Rattle.record_writer.specs.Written.{fieldsWritten, writtenBytes}
 use Rattle.record_writer.specs.Writable.{listStored, Writable}
-use Rattle.n_lists.specs.NPlaces.{NListFits}
+use Rattle.n_lists.specs.NPlaces.{NCounted}
 
 -- The with-N bit: there is an N exactly if one is counted.
 pub n-counted : (codes : List ℕ) (count : ℕ) → count ≡ length (nOffsetsOf codes)
@@ -116,7 +116,7 @@ module _ (previous : ℕ) (entries : List Entry) (codes : List ℕ) (count : ℕ
 -- An N list that is stored is one that can be.
 pub stored-fits : {record′ : Record} {entries : ℕ} {letters : List ℕ} {from to count : ℕ}
     → Writable record′ entries letters from to count → listStored record′ count ≡ true
-    → NListFits letters from to count
+    → NCounted letters from to count
 stored-fits can stored =
     record { lies = can .lies; counted = can .counted; few = can .listed stored }
 

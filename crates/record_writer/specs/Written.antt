@@ -8,7 +8,6 @@ use Rattle.dna.specs.Record.{Entry, RecordFields, perfect, global, local, raw, 
 use Rattle.dna.specs.Record.{recordBytes}
 use Rattle.dna.specs.declared.Strand.{Strand}
 use Rattle.dna.specs.declared.Strand.the-variants as strands
-use Rattle.dna.specs.declared.Placement.{Placement}
 use Rattle.dna.specs.declared.Record.{Record}
 use Rattle.dna.specs.declared.Record.the-variants as kinds
 use Rattle.format.specs.RuleRecord.{nOffsetsOf, padded, withoutN, stepFits, fieldFor, Written}
