@@ -4,7 +4,12 @@
 # make corpus: makes its cases in crates/corpus again (rust/second/CORPUS.md); it needs cargo.
 # make bench: measures the writers of a stretch, the walk over the lengths and the encoder of a size section
 # (docs/BENCHMARK.md); it needs cargo, and x86-64.
-.PHONY: run test trace second corpus bench
+# make compare: the library and the second implementation on a million cases (rust/compare), the tests of the Rust
+# wrapper (rust/ora) and the examples in C; it needs cargo, a C compiler, and x86-64. SEED and COUNT choose other
+# cases; with CASE one case of a seed is run, and nothing else.
+# make compare-valgrind: fewer cases, in a memory checker; it needs valgrind too.
+# make sample: makes the files of examples/data again; it needs what make compare does.
+.PHONY: run test trace second corpus bench library compare compare-valgrind sample
 run:
 	@echo "make run: the listing program is not part of this version yet; 'make test' checks what is" >&2; exit 2
 
@@ -14,7 +19,7 @@ test:
 trace:
 	@sh docs/check_trace.sh
 
-second corpus bench: export CARGO_TARGET_DIR ?= $(CURDIR)/target/cargo
+second corpus bench compare compare-valgrind sample: export CARGO_TARGET_DIR ?= $(CURDIR)/target/cargo
 second: trace
 	@command -v cargo >/dev/null 2>&1 \
 	  || { echo "second: Rust is missing: there is no command 'cargo' on the PATH" >&2; exit 2; }
@@ -32,3 +37,39 @@ bench:
 	  || { echo "bench: Rust is missing: there is no command 'cargo' on the PATH" >&2; exit 2; }
 	@rt staticlib bench_exports
 	@cargo run --release --quiet --offline --manifest-path rust/bench/Cargo.toml
+
+# The C interface as target/staticlib/libcapi.a, for C and for rust/ora.
+library:
+	@command -v rt >/dev/null 2>&1 \
+	  || { echo "library: the Rattle toolchain is missing: there is no command 'rt' on the PATH" >&2; exit 2; }
+	@rt staticlib capi
+
+SEED = 1
+COUNT = 1000000
+VALGRIND_COUNT = 3000
+COMPARE = rust/compare/Cargo.toml
+
+compare: library
+	@command -v cargo >/dev/null 2>&1 \
+	  || { echo "compare: Rust is missing: there is no command 'cargo' on the PATH" >&2; exit 2; }
+ifndef CASE
+	@sh examples/check.sh target/staticlib/libcapi.a target/examples
+	@cargo test --release --quiet --offline --manifest-path rust/ora/Cargo.toml
+	@cargo test --release --quiet --offline --manifest-path $(COMPARE)
+endif
+	@cargo run --release --quiet --offline --manifest-path $(COMPARE) -- \
+	  --seed $(SEED) $(if $(CASE),--case $(CASE),--count $(COUNT))
+
+compare-valgrind: library
+	@command -v cargo >/dev/null 2>&1 \
+	  || { echo "compare-valgrind: Rust is missing: there is no command 'cargo' on the PATH" >&2; exit 2; }
+	@command -v valgrind >/dev/null 2>&1 \
+	  || { echo "compare-valgrind: there is no command 'valgrind' on the PATH" >&2; exit 2; }
+	@cargo build --release --quiet --offline --manifest-path $(COMPARE)
+	@valgrind --quiet --error-exitcode=1 --leak-check=full \
+	  $$CARGO_TARGET_DIR/release/compare --seed $(SEED) --count $(VALGRIND_COUNT)
+
+sample: library
+	@command -v cargo >/dev/null 2>&1 \
+	  || { echo "sample: Rust is missing: there is no command 'cargo' on the PATH" >&2; exit 2; }
+	@cargo run --release --quiet --offline --manifest-path $(COMPARE) --bin make_sample -- examples/data

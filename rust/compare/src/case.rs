@@ -1,0 +1,110 @@
+//! What a case is: an input to be read, or reads to be written.
+
+use ora::Columns;
+use second::proposals::EncodeCall;
+use std::sync::Arc;
+
+/// Bytes of exactly their length, so that a memory checker sees a step past them; shared, as a
+/// reference can be large.
+pub type Bytes = Arc<Box<[u8]>>;
+
+pub fn bytes(bytes: Vec<u8>) -> Bytes {
+    Arc::new(bytes.into_boxed_slice())
+}
+
+#[derive(Clone)]
+pub struct Case {
+    pub family: &'static str,
+    pub work: Work,
+    /// Whether lent buffers stand between margins; otherwise they have exactly their length.
+    pub margins: bool,
+}
+
+#[derive(Clone)]
+pub enum Work {
+    Reading(Reading),
+    Writing(Writing),
+}
+
+/// An input for decode, validate_block, validate, section and block_id.
+#[derive(Clone)]
+pub struct Reading {
+    pub bases: u64,
+    pub reference: Bytes,
+    pub input: Box<[u8]>,
+    pub room: Room,
+    /// A section number to be asked for beside 0 to 8.
+    pub section: u64,
+}
+
+/// How much is lent to decode.
+#[derive(Clone, Copy, Debug)]
+pub enum Room {
+    /// So many letters and ends more than the block needs.
+    More(usize, usize),
+    /// One letter less than the block needs, or one end, or nothing at all.
+    LettersShort,
+    EndsShort,
+    Nothing,
+    /// So many letters and ends, whatever the block needs.
+    Exactly(usize, usize),
+}
+
+impl Room {
+    /// The letters and ends that are lent where the block needs so many.
+    pub fn lent(self, letters: usize, ends: usize) -> (usize, usize) {
+        match self {
+            Room::More(more_letters, more_ends) => (letters + more_letters, ends + more_ends),
+            Room::LettersShort => (letters.saturating_sub(1), ends + 1),
+            Room::EndsShort => (letters + 1, ends.saturating_sub(1)),
+            Room::Nothing => (0, 0),
+            Room::Exactly(letters, ends) => (letters, ends),
+        }
+    }
+}
+
+/// Reads for encode.
+#[derive(Clone)]
+pub struct Writing {
+    pub bases: u64,
+    pub reference: Bytes,
+    pub letters: Box<[u8]>,
+    pub ends: Box<[u32]>,
+    pub positions: Box<[u32]>,
+    pub strands: Box<[u8]>,
+    pub lefts: Box<[u8]>,
+    pub rights: Box<[u8]>,
+    pub b_id: u64,
+    pub c_time: u64,
+    /// The bytes that are lent for the block.
+    pub lent: usize,
+}
+
+impl Writing {
+    pub fn of_call(call: EncodeCall) -> Writing {
+        Writing {
+            bases: call.bases,
+            reference: bytes(call.reference),
+            letters: call.letters.into(),
+            ends: call.ends.into(),
+            positions: call.positions.into(),
+            strands: call.strands.into(),
+            lefts: call.lefts.into(),
+            rights: call.rights.into(),
+            b_id: call.b_id,
+            c_time: call.c_time,
+            lent: call.capacity,
+        }
+    }
+
+    pub fn columns(&self) -> Columns<'_> {
+        Columns {
+            letters: &self.letters,
+            ends: &self.ends,
+            positions: &self.positions,
+            strands: &self.strands,
+            lefts: &self.lefts,
+            rights: &self.rights,
+        }
+    }
+}

@@ -1,0 +1,56 @@
+//! Draws the case of a number: first its family, then the case. The same seed and number always give
+//! the same case, whatever was drawn before.
+
+use crate::case::Case;
+use crate::stock::Stock;
+use crate::{readings, writings};
+use second::prng::Prng;
+
+type Family = (u64, &'static str, fn(&mut Prng, &Stock) -> crate::case::Work);
+
+/// The families, each with its share of the cases.
+const FAMILIES: &[Family] = &[
+    (900, "sound block", readings::sound),
+    (2600, "one fault", readings::one_fault),
+    (700, "two faults", readings::two_faults),
+    (400, "too little room", readings::little_room),
+    (1400, "damaged block", readings::damaged),
+    (400, "edited sections", readings::edited_sections),
+    (300, "cut block", readings::cut),
+    (500, "header fields", readings::header_fields),
+    (300, "wild records", readings::wild_records),
+    (600, "corpus, read", readings::corpus),
+    (250, "steps", readings::steps),
+    (150, "steps on the largest reference", readings::steps_on_the_largest),
+    (30, "sum of lengths", readings::sum_of_lengths),
+    (120, "long reads", readings::long_reads),
+    (6, "many reads", readings::many_reads),
+    (300, "sound file", readings::sound_file),
+    (400, "file with a fault", readings::file_with_fault),
+    (250, "damaged file", readings::damaged_file),
+    (200, "cut file", readings::cut_file),
+    (800, "written", writings::random),
+    (700, "written, one fault", writings::one_fault),
+    (150, "written, two faults", writings::two_faults),
+    (30, "too many reads", writings::too_many_reads),
+    (250, "gaps", writings::gaps),
+    (150, "written steps", writings::steps),
+    (80, "written on the largest reference", writings::on_the_largest),
+    (100, "corpus, written", writings::corpus),
+    (100, "long reads, written", writings::long_reads),
+    (5, "many reads, written", writings::many_reads),
+];
+
+/// Draws a case.
+pub fn draw(stock: &Stock, seed: u64, number: u64) -> Case {
+    let rng = &mut Prng::new(Prng::new(seed).next_u64() ^ Prng::new(!number).next_u64());
+    let shares: u64 = FAMILIES.iter().map(|&(share, ..)| share).sum();
+    let mut left = rng.below(shares);
+    let drawn = FAMILIES.iter().find(|&&(share, ..)| {
+        let found = left < share;
+        left = left.saturating_sub(share);
+        found
+    });
+    let &(_, family, draw) = drawn.unwrap();
+    Case { family, margins: rng.coin(), work: draw(rng, stock) }
+}

@@ -1,0 +1,288 @@
+//! Property: a library with one thing wrong is found out, and the report says what and where.
+//! Catches: a comparison that looks away.
+
+use compare::library::{Library, Linked};
+use compare::report::report;
+use compare::run::{run, Finding, Settings};
+use compare::stock::Stock;
+use ora::raw::Answer;
+use ora::Columns;
+
+/// Changes what a call answers and what it left in the buffers.
+type SpoilDecode = fn(&mut Answer, &mut [u8], &mut [u32]);
+type SpoilJudge = fn(&mut Answer, &[u8]);
+type SpoilEncode = fn(&mut Answer, &mut [u8]);
+type SpoilSection = fn(&mut Answer, u64);
+
+/// The linked library with one thing wrong.
+#[derive(Default)]
+struct Wrong {
+    decode: Option<SpoilDecode>,
+    validate_block: Option<SpoilJudge>,
+    validate: Option<SpoilJudge>,
+    encode: Option<SpoilEncode>,
+    section: Option<SpoilSection>,
+    returned: Option<fn(u64) -> u64>,
+    block_id: Option<fn(u64) -> u64>,
+}
+
+impl Wrong {
+    fn number(&self, number: u64) -> u64 {
+        self.returned.map_or(number, |spoil| spoil(number))
+    }
+}
+
+impl Library for Wrong {
+    fn decode(
+        &self,
+        bases: u64,
+        reference: &[u8],
+        input: &[u8],
+        letters: &mut [u8],
+        ends: &mut [u32],
+        answer: &mut Answer,
+    ) -> u64 {
+        Linked.decode(bases, reference, input, letters, ends, answer);
+        if let Some(spoil) = self.decode {
+            spoil(answer, letters, ends);
+        }
+        self.number(answer[0])
+    }
+
+    fn validate_block(
+        &self,
+        bases: u64,
+        reference: &[u8],
+        input: &[u8],
+        answer: &mut Answer,
+    ) -> u64 {
+        Linked.validate_block(bases, reference, input, answer);
+        if let Some(spoil) = self.validate_block {
+            spoil(answer, input);
+        }
+        self.number(answer[0])
+    }
+
+    fn validate(&self, bases: u64, reference: &[u8], file: &[u8], answer: &mut Answer) -> u64 {
+        Linked.validate(bases, reference, file, answer);
+        if let Some(spoil) = self.validate {
+            spoil(answer, file);
+        }
+        self.number(answer[0])
+    }
+
+    fn encode(
+        &self,
+        bases: u64,
+        reference: &[u8],
+        columns: &Columns,
+        b_id: u64,
+        c_time: u64,
+        out: &mut [u8],
+        answer: &mut Answer,
+    ) -> u64 {
+        Linked.encode(bases, reference, columns, b_id, c_time, out, answer);
+        if let Some(spoil) = self.encode {
+            spoil(answer, out);
+        }
+        self.number(answer[0])
+    }
+
+    fn section(&self, input: &[u8], number: u64, answer: &mut Answer) -> u64 {
+        Linked.section(input, number, answer);
+        if let Some(spoil) = self.section {
+            spoil(answer, number);
+        }
+        self.number(answer[0])
+    }
+
+    fn block_id(&self, input: &[u8]) -> u64 {
+        let id = Linked.block_id(input);
+        self.block_id.map_or(id, |spoil| spoil(id))
+    }
+}
+
+const SEED: u64 = 5;
+
+fn found(stock: &Stock, library: &dyn Library, count: u64) -> Option<Finding> {
+    let settings = Settings { seed: SEED, first: 0, count, threads: 2 };
+    run(library, stock, settings, |_| {}).0
+}
+
+/// The wrong library is found out in a call, by a difference whose description has these words.
+fn expect(stock: &Stock, wrong: Wrong, call: &str, what: &str) {
+    let finding = found(stock, &wrong, 2_000).unwrap_or_else(|| panic!("{call}, {what}: missed"));
+    assert_eq!(finding.disagreement.call, call, "{:?}", finding.disagreement);
+    assert!(finding.disagreement.what.contains(what), "{:?}", finding.disagreement);
+    let text = report(&wrong, SEED, &finding);
+    for part in [
+        format!("case {} of seed {SEED}", finding.number),
+        format!("CASE={}", finding.number),
+        format!("call      {call}, "),
+        "  reference ".to_string(),
+        "made smaller:".to_string(),
+    ] {
+        assert!(text.contains(&part), "{part} is missing in\n{text}");
+    }
+}
+
+fn accepted(answer: &Answer) -> bool {
+    answer[0] == 0
+}
+
+#[test]
+fn nothing_is_found_in_what_is_right() {
+    assert!(found(&Stock::new(), &Wrong::default(), 2_000).is_none());
+}
+
+/// Each slot of each call, also those that are not used.
+#[test]
+fn slots() {
+    let stock = &Stock::new();
+    let decode: [SpoilDecode; 6] = [
+        |answer, _, _| answer[0] += (answer[0] == 17) as u64,
+        |answer, _, _| answer[1] += (answer[0] == 12) as u64,
+        |answer, _, _| answer[2] += (answer[0] == 13) as u64,
+        |answer, _, _| answer[3] += accepted(answer) as u64,
+        |answer, _, _| answer[7] += accepted(answer) as u64,
+        |answer, _, _| answer[15] = 1,
+    ];
+    for spoil in decode {
+        expect(stock, Wrong { decode: Some(spoil), ..Wrong::default() }, "decode", "slots");
+    }
+    let judge: [SpoilJudge; 7] = [
+        |answer, _| answer[0] += (answer[0] == 8) as u64,
+        |answer, _| answer[2] += (answer[0] == 20) as u64,
+        |answer, _| answer[3] += accepted(answer) as u64,
+        |answer, _| answer[4] += (answer[0] == 9) as u64,
+        |answer, _| answer[5] += accepted(answer) as u64,
+        |answer, _| answer[6] -= (answer[6] == 31) as u64,
+        |answer, _| answer[8] = 1,
+    ];
+    for spoil in judge {
+        let wrong = Wrong { validate_block: Some(spoil), ..Wrong::default() };
+        expect(stock, wrong, "validate_block", "slots");
+    }
+    let judge_file: [SpoilJudge; 3] = [
+        |answer, file| answer[3] += file.is_empty() as u64,
+        |answer, _| answer[1] -= (answer[1] > 0) as u64,
+        |answer, _| answer[3] += answer[1],
+    ];
+    for spoil in judge_file {
+        let wrong = Wrong { validate: Some(spoil), ..Wrong::default() };
+        expect(stock, wrong, "validate", "slots");
+    }
+    let write: [SpoilEncode; 3] = [
+        |answer, _| answer[0] += (answer[0] == 32) as u64,
+        |answer, _| answer[3] -= accepted(answer) as u64,
+        |answer, _| answer[4] += accepted(answer) as u64,
+    ];
+    for spoil in write {
+        expect(stock, Wrong { encode: Some(spoil), ..Wrong::default() }, "encode", "slots");
+    }
+    let tell: [SpoilSection; 3] = [
+        |answer, number| answer[3] += (number == 5 && answer[4] != 0) as u64,
+        |answer, _| answer[4] += (answer[4] != 0) as u64,
+        |answer, number| answer[3] += (number > 8) as u64,
+    ];
+    for spoil in tell {
+        expect(stock, Wrong { section: Some(spoil), ..Wrong::default() }, "section", "slots");
+    }
+}
+
+#[test]
+fn returned_numbers() {
+    let stock = &Stock::new();
+    let returned: Option<fn(u64) -> u64> = Some(|number| if number == 22 { 21 } else { number });
+    expect(stock, Wrong { returned, ..Wrong::default() }, "decode", "returned number");
+    let block_id: Option<fn(u64) -> u64> = Some(|id| id & 0xFFFF_FFFF);
+    expect(stock, Wrong { block_id, ..Wrong::default() }, "block_id", "b_id");
+}
+
+/// What is written, what lies past it, and what a refusal leaves.
+#[test]
+fn buffers() {
+    let stock = &Stock::new();
+    let decode: [(&str, SpoilDecode); 6] = [
+        ("letters", |answer, letters, _| {
+            if accepted(answer) && answer[5] > 0 {
+                letters[answer[5] as usize - 1] = b'a';
+            }
+        }),
+        ("letters", |answer, letters, _| {
+            if accepted(answer) {
+                letters.iter_mut().skip(answer[5] as usize).for_each(|letter| *letter = 0);
+            }
+        }),
+        ("letters", |answer, letters, _| {
+            if answer[0] == 22 {
+                letters.iter_mut().take(1).for_each(|letter| *letter = b'A');
+            }
+        }),
+        ("ends", |answer, _, ends| {
+            if accepted(answer) && answer[4] > 1 {
+                ends[1] += 1;
+            }
+        }),
+        ("ends", |answer, _, ends| {
+            if accepted(answer) {
+                ends.iter_mut().skip(answer[4] as usize).for_each(|end| *end = 0);
+            }
+        }),
+        ("ends", |answer, _, ends| {
+            if answer[0] == 22 {
+                ends.iter_mut().take(1).for_each(|end| *end = 0);
+            }
+        }),
+    ];
+    for (what, spoil) in decode {
+        expect(stock, Wrong { decode: Some(spoil), ..Wrong::default() }, "decode", what);
+    }
+    let write: [SpoilEncode; 3] = [
+        |answer, out| {
+            if accepted(answer) {
+                out[64] = 41;
+            }
+        },
+        |answer, out| {
+            if accepted(answer) {
+                out.iter_mut().skip(answer[3] as usize).take(1).for_each(|byte| *byte = 0);
+            }
+        },
+        |answer, out| {
+            if answer[0] == 34 {
+                out.iter_mut().take(2).for_each(|byte| *byte = 0x49);
+            }
+        },
+    ];
+    for spoil in write {
+        expect(stock, Wrong { encode: Some(spoil), ..Wrong::default() }, "encode", "out");
+    }
+}
+
+/// Wrong only on blocks that are seldom drawn.
+#[test]
+fn rare_blocks() {
+    let stock = &Stock::new();
+    let rare: [SpoilJudge; 4] = [
+        // A read of more than 65,535 letters.
+        |answer, _| answer[7] += (answer[4] == 1 && answer[5] > 65_535) as u64,
+        // A block of 50,000 reads.
+        |answer, _| answer[6] += (answer[4] == 50_000) as u64,
+        // A block length above 32 bits.
+        |answer, input| {
+            if answer[0] == 8 && input[9] >= 0x80 && input[13] >= 0x80 {
+                answer[0] = 12;
+            }
+        },
+        // A negative l_read.
+        |answer, input| {
+            answer[0] += (answer[0] == 9 && input[42] & 1 == 1 && input[49] >= 0x80) as u64
+        },
+    ];
+    for spoil in rare {
+        let wrong = Wrong { validate_block: Some(spoil), ..Wrong::default() };
+        let finding = found(stock, &wrong, 50_000).expect("missed");
+        assert_eq!(finding.disagreement.call, "validate_block");
+    }
+}
