@@ -46,7 +46,7 @@ library:
 
 SEED = 1
 COUNT = 1000000
-VALGRIND_COUNT = 3000
+VALGRIND_COUNT = 10000
 COMPARE = rust/compare/Cargo.toml
 
 compare: library
@@ -66,8 +66,8 @@ compare-valgrind: library
 	@command -v valgrind >/dev/null 2>&1 \
 	  || { echo "compare-valgrind: there is no command 'valgrind' on the PATH" >&2; exit 2; }
 	@cargo build --release --quiet --offline --manifest-path $(COMPARE)
-	@valgrind --quiet --error-exitcode=1 --leak-check=full \
-	  $$CARGO_TARGET_DIR/release/compare --seed $(SEED) --count $(VALGRIND_COUNT)
+	@valgrind --quiet --error-exitcode=1 --leak-check=full --show-leak-kinds=definite --errors-for-leak-kinds=definite \
+	  $$CARGO_TARGET_DIR/release/compare --seed $(SEED) --count $(VALGRIND_COUNT) --threads 1
 
 sample: library
 	@command -v cargo >/dev/null 2>&1 \

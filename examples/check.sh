@@ -7,9 +7,13 @@ here=$(dirname "$0")
 library=${1:?} folder=${2:?}
 data=$here/data
 cc=${CC:-cc}
+missing() {
+  echo "examples: $1" >&2
+  exit 2
+}
 command -v "$cc" >/dev/null 2>&1 \
-  || { echo "examples: a C compiler is missing: there is no command '$cc' on the PATH" >&2; exit 2; }
-[ -f "$library" ] || { echo "examples: $library is missing: run 'rt staticlib capi' first" >&2; exit 2; }
+  || missing "a C compiler is missing: there is no command '$cc' on the PATH"
+[ -f "$library" ] || missing "$library is missing: run 'rt staticlib capi' first"
 mkdir -p "$folder" || exit 2
 
 for name in list round_trip; do

@@ -1,5 +1,6 @@
 //! What a case is: an input to be read, or reads to be written.
 
+use crate::library::Under;
 use ora::Columns;
 use second::proposals::EncodeCall;
 use std::sync::Arc;
@@ -35,6 +36,12 @@ pub struct Reading {
     pub room: Room,
     /// A section number to be asked for beside 0 to 8.
     pub section: u64,
+}
+
+impl Reading {
+    pub fn under(&self) -> Under<'_> {
+        Under { bases: self.bases, reference: &self.reference }
+    }
 }
 
 /// How much is lent to decode.
@@ -81,6 +88,10 @@ pub struct Writing {
 }
 
 impl Writing {
+    pub fn under(&self) -> Under<'_> {
+        Under { bases: self.bases, reference: &self.reference }
+    }
+
     pub fn of_call(call: EncodeCall) -> Writing {
         Writing {
             bases: call.bases,

@@ -35,13 +35,12 @@ fn check_reading(
     margins: bool,
     tally: &mut Tally,
 ) -> Result<(), Disagreement> {
-    let Reading { bases, ref reference, ref input, .. } = *reading;
+    let (under, input) = (reading.under(), &reading.input);
     let judged = both(library, Call::ValidateBlock, margins, |side, answer| {
-        side.validate_block(bases, reference, input, answer)
+        side.validate_block(under, input, answer)
     })?;
-    let file = both(library, Call::Validate, margins, |side, answer| {
-        side.validate(bases, reference, input, answer)
-    })?;
+    let file =
+        both(library, Call::Validate, margins, |side, answer| side.validate(under, input, answer))?;
     let (letters, ends) = reading.room.lent(judged[5] as usize, judged[4] as usize);
     let decoded = check_decode(library, reading, letters, ends, margins)?;
     for number in (0..9).chain([reading.section]) {
@@ -73,8 +72,7 @@ fn check_decode(
     let mut given = lent_letters.iter_mut().zip(&mut lent_ends);
     let answer = both(library, Call::Decode, margins, |side, answer| {
         let (letters, ends) = given.next().unwrap();
-        let Reading { bases, ref reference, ref input, .. } = *reading;
-        side.decode(bases, reference, input, letters.lend(), ends.lend(), answer)
+        side.decode(reading.under(), &reading.input, letters.lend(), ends.lend(), answer)
     })?;
     compare_lent("decode", "letters", &lent_letters, answer[5] as usize)?;
     compare_lent("decode", "ends", &lent_ends, answer[4] as usize)?;
@@ -91,9 +89,9 @@ fn check_writing(
     let mut lent = sides.map(|_| Lent::new(writing.lent, margins));
     let mut given = lent.iter_mut();
     let answer = both(library, Call::Encode, margins, |side, answer| {
-        let Writing { bases, ref reference, b_id, c_time, .. } = *writing;
         let out = given.next().unwrap().lend();
-        side.encode(bases, reference, &writing.columns(), b_id, c_time, out, answer)
+        let stamp = (writing.b_id, writing.c_time);
+        side.encode(writing.under(), &writing.columns(), stamp, out, answer)
     })?;
     let length = answer[3] as usize;
     compare_lent("encode", "out", &lent, length)?;
@@ -125,8 +123,8 @@ fn check_written(
     check_reading(library, &reading, margins, tally)?;
     let (mut read_letters, mut read_ends) = (vec![0; letters], vec![0; ends]);
     let mut answer = [0; SLOTS];
-    let Reading { bases, ref reference, ref input, .. } = reading;
-    library.decode(bases, reference, input, &mut read_letters, &mut read_ends, &mut answer);
+    let (under, input) = (reading.under(), &reading.input);
+    library.decode(under, input, &mut read_letters, &mut read_ends, &mut answer);
     compare("decode", "block that was written", &answer[..4], &[0, 0, 0, block.len() as u64])?;
     compare("decode", "letters that were written", &read_letters[..], &writing.letters)?;
     compare("decode", "ends that were written", &read_ends[..], &writing.ends)

@@ -1,14 +1,14 @@
-//! Draws the case of a number: first its family, then the case. The same seed and number always give
-//! the same case, whatever was drawn before.
+//! Draws the case of a number: first its family, then the case. The same seed and number always
+//! give the same case, whatever was drawn before.
 
-use crate::case::Case;
+use crate::case::{Case, Work};
 use crate::stock::Stock;
 use crate::{readings, writings};
 use second::prng::Prng;
 
-type Family = (u64, &'static str, fn(&mut Prng, &Stock) -> crate::case::Work);
+/// A family's share of the cases, its name, and how a case of it is drawn.
+type Family = (u64, &'static str, fn(&mut Prng, &Stock) -> Work);
 
-/// The families, each with its share of the cases.
 const FAMILIES: &[Family] = &[
     (900, "sound block", readings::sound),
     (2600, "one fault", readings::one_fault),
@@ -46,11 +46,11 @@ pub fn draw(stock: &Stock, seed: u64, number: u64) -> Case {
     let rng = &mut Prng::new(Prng::new(seed).next_u64() ^ Prng::new(!number).next_u64());
     let shares: u64 = FAMILIES.iter().map(|&(share, ..)| share).sum();
     let mut left = rng.below(shares);
-    let drawn = FAMILIES.iter().find(|&&(share, ..)| {
-        let found = left < share;
-        left = left.saturating_sub(share);
-        found
-    });
-    let &(_, family, draw) = drawn.unwrap();
-    Case { family, margins: rng.coin(), work: draw(rng, stock) }
+    for &(share, family, draw) in FAMILIES {
+        if left < share {
+            return Case { family, margins: rng.coin(), work: draw(rng, stock) };
+        }
+        left -= share;
+    }
+    unreachable!("the shares are all there is")
 }

@@ -10,7 +10,7 @@
 //! - that a block which was written reads back as the letters and ends that it was made of.
 //!
 //! Every refusal of every call that owns it, and every path in `paths`, has to be met often enough,
-//! or the run fails. `make compare` runs a million cases; `make compare-valgrind` runs fewer under a
+//! or the run fails. `make compare` runs a million cases; `make compare-valgrind` runs fewer in a
 //! memory checker. The same seed gives the same cases on any number of threads.
 //!
 //! | Module | Carries |

@@ -4,36 +4,36 @@ use ora::raw::{self, Answer};
 use ora::Columns;
 use second::Outcome;
 
+/// A reference, right or wrong.
+#[derive(Clone, Copy)]
+pub struct Under<'a> {
+    pub bases: u64,
+    pub reference: &'a [u8],
+}
+
+/// The b_id and the c_time of a block to be written.
+pub type Stamp = (u64, u64);
+
 /// Something that answers the six calls.
 pub trait Library: Sync {
     fn decode(
         &self,
-        bases: u64,
-        reference: &[u8],
+        under: Under,
         input: &[u8],
         letters: &mut [u8],
         ends: &mut [u32],
         answer: &mut Answer,
     ) -> u64;
 
-    fn validate_block(
-        &self,
-        bases: u64,
-        reference: &[u8],
-        input: &[u8],
-        answer: &mut Answer,
-    ) -> u64;
+    fn validate_block(&self, under: Under, input: &[u8], answer: &mut Answer) -> u64;
 
-    fn validate(&self, bases: u64, reference: &[u8], file: &[u8], answer: &mut Answer) -> u64;
+    fn validate(&self, under: Under, file: &[u8], answer: &mut Answer) -> u64;
 
-    #[allow(clippy::too_many_arguments)]
     fn encode(
         &self,
-        bases: u64,
-        reference: &[u8],
+        under: Under,
         columns: &Columns,
-        b_id: u64,
-        c_time: u64,
+        stamp: Stamp,
         out: &mut [u8],
         answer: &mut Answer,
     ) -> u64;
@@ -49,41 +49,32 @@ pub struct Linked;
 impl Library for Linked {
     fn decode(
         &self,
-        bases: u64,
-        reference: &[u8],
+        under: Under,
         input: &[u8],
         letters: &mut [u8],
         ends: &mut [u32],
         answer: &mut Answer,
     ) -> u64 {
-        raw::decode(bases, reference, input, letters, ends, answer)
+        raw::decode(under.bases, under.reference, input, letters, ends, answer)
     }
 
-    fn validate_block(
-        &self,
-        bases: u64,
-        reference: &[u8],
-        input: &[u8],
-        answer: &mut Answer,
-    ) -> u64 {
-        raw::validate_block(bases, reference, input, answer)
+    fn validate_block(&self, under: Under, input: &[u8], answer: &mut Answer) -> u64 {
+        raw::validate_block(under.bases, under.reference, input, answer)
     }
 
-    fn validate(&self, bases: u64, reference: &[u8], file: &[u8], answer: &mut Answer) -> u64 {
-        raw::validate(bases, reference, file, answer)
+    fn validate(&self, under: Under, file: &[u8], answer: &mut Answer) -> u64 {
+        raw::validate(under.bases, under.reference, file, answer)
     }
 
     fn encode(
         &self,
-        bases: u64,
-        reference: &[u8],
+        under: Under,
         columns: &Columns,
-        b_id: u64,
-        c_time: u64,
+        (b_id, c_time): Stamp,
         out: &mut [u8],
         answer: &mut Answer,
     ) -> u64 {
-        raw::encode(bases, reference, columns, b_id, c_time, out, answer)
+        raw::encode(under.bases, under.reference, columns, b_id, c_time, out, answer)
     }
 
     fn section(&self, input: &[u8], number: u64, answer: &mut Answer) -> u64 {
@@ -101,46 +92,37 @@ pub struct Second;
 impl Library for Second {
     fn decode(
         &self,
-        bases: u64,
-        reference: &[u8],
+        under: Under,
         input: &[u8],
         letters: &mut [u8],
         ends: &mut [u32],
         answer: &mut Answer,
     ) -> u64 {
-        let outcome = second::decode(bases, reference, input, letters, ends);
+        let outcome = second::decode(under.bases, under.reference, input, letters, ends);
         fill(answer, outcome, outcome.length)
     }
 
-    fn validate_block(
-        &self,
-        bases: u64,
-        reference: &[u8],
-        input: &[u8],
-        answer: &mut Answer,
-    ) -> u64 {
-        let outcome = second::validate_block(bases, reference, input);
+    fn validate_block(&self, under: Under, input: &[u8], answer: &mut Answer) -> u64 {
+        let outcome = second::validate_block(under.bases, under.reference, input);
         fill(answer, outcome, outcome.length)
     }
 
-    fn validate(&self, bases: u64, reference: &[u8], file: &[u8], answer: &mut Answer) -> u64 {
-        let outcome = second::validate(bases, reference, file);
+    fn validate(&self, under: Under, file: &[u8], answer: &mut Answer) -> u64 {
+        let outcome = second::validate(under.bases, under.reference, file);
         fill(answer, outcome, outcome.blocks)
     }
 
     fn encode(
         &self,
-        bases: u64,
-        reference: &[u8],
+        under: Under,
         columns: &Columns,
-        b_id: u64,
-        c_time: u64,
+        (b_id, c_time): Stamp,
         out: &mut [u8],
         answer: &mut Answer,
     ) -> u64 {
         let outcome = second::encode(
-            bases,
-            reference,
+            under.bases,
+            under.reference,
             columns.letters,
             columns.ends,
             columns.positions,
@@ -156,7 +138,7 @@ impl Library for Second {
 
     fn section(&self, input: &[u8], number: u64, answer: &mut Answer) -> u64 {
         let (offset, length) = second::section_span(input, number);
-        *answer = [0; 16];
+        *answer = [0; raw::SLOTS];
         answer[3..5].copy_from_slice(&[offset, length]);
         0
     }
@@ -169,7 +151,7 @@ impl Library for Second {
 /// Slot 3 is the block's length or the number of blocks.
 fn fill(answer: &mut Answer, outcome: Outcome, third: u64) -> u64 {
     let Outcome { number, block, read, reads, letters, entries, differences, .. } = outcome;
-    *answer = [0; 16];
+    *answer = [0; raw::SLOTS];
     let slots = [number as u64, block, read, third, reads, letters, entries, differences];
     answer[..8].copy_from_slice(&slots);
     number as u64

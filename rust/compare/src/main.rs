@@ -1,6 +1,14 @@
-//! Runs the comparison: `compare [--seed N] [--count N] [--first N] [--case N] [--threads N]`.
-//! Exit status: 0 if both sides agree on all cases and all that is asked for was met, 1 if not, 2 on
-//! wrong arguments.
+//! Runs the comparison. Arguments, each with a number:
+//!
+//! - `--seed`: other cases; 1 if not given
+//! - `--count`: how many, from `--first` on; a million from 0 on if not given
+//! - `--case`: one case alone
+//! - `--threads`: as many as there are cores if not given
+//! - `--say 1`: print the number of each case before it is run; with one thread a case which
+//!   ends the process can so be told
+//!
+//! Exit status: 0 if both sides agree on all cases and all that is asked for was met, 1 if not, 2
+//! on wrong arguments.
 
 use compare::library::Linked;
 use compare::report::report;
@@ -18,7 +26,9 @@ const CASES_FOR_A_PATH: u64 = 10_000;
 
 fn main() -> ExitCode {
     let Some(settings) = settings(std::env::args().skip(1)) else {
-        eprintln!("usage: compare [--seed N] [--count N] [--first N] [--case N] [--threads N]");
+        eprintln!(
+            "usage: compare [--seed N] [--count N] [--first N] [--case N] [--threads N] [--say 1]"
+        );
         return ExitCode::from(2);
     };
     let began = Instant::now();
@@ -31,9 +41,11 @@ fn main() -> ExitCode {
         return ExitCode::from(1);
     }
     let Settings { seed, count, threads, .. } = settings;
-    print!("{}", tally.table());
+    if count > 1 {
+        println!("{}", tally.table());
+    }
     let seconds = began.elapsed().as_secs_f64();
-    println!("\n{count} cases of seed {seed} agree; {seconds:.0} s on {threads} threads");
+    println!("{count} cases of seed {seed} agree; {seconds:.0} s on {threads} threads");
     let missing = tally.missing(count / CASES_FOR_AN_ANSWER, count / CASES_FOR_A_PATH);
     for line in &missing {
         println!("too seldom: {line}");
@@ -43,7 +55,7 @@ fn main() -> ExitCode {
 
 fn settings(mut arguments: impl Iterator<Item = String>) -> Option<Settings> {
     let threads = std::thread::available_parallelism().map_or(1, |threads| threads.get());
-    let mut settings = Settings { seed: 1, first: 0, count: COUNT, threads };
+    let mut settings = Settings { seed: 1, first: 0, count: COUNT, threads, say: false };
     while let Some(name) = arguments.next() {
         let value: u64 = arguments.next()?.parse().ok()?;
         match name.as_str() {
@@ -52,6 +64,7 @@ fn settings(mut arguments: impl Iterator<Item = String>) -> Option<Settings> {
             "--first" => settings.first = value,
             "--case" => (settings.first, settings.count) = (value, 1),
             "--threads" => settings.threads = value.max(1) as usize,
+            "--say" => settings.say = value != 0,
             _ => return None,
         }
     }

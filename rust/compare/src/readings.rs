@@ -217,9 +217,9 @@ pub fn header_fields(rng: &mut Prng, _: &Stock) -> Work {
 /// Reads of one length whose group bytes, flag bytes and fields are drawn without regard to each
 /// other, most of them small. The N section is that of the groups.
 pub fn wild_records(rng: &mut Prng, _: &Stock) -> Work {
-    let bases = rng.pick(&[0, 4, 12, 64, 300, 300, 300]);
+    let bases = rng.pick(&[0, 4, 12, 64, 300, 300, 700]);
     let reference = generate_reference(rng, bases);
-    let length = rng.pick(&[1, 2, 3, 4, 5, 8, 9, 64, 70]);
+    let length = rng.pick(&[1, 2, 3, 4, 5, 8, 9, 64, 70, 200, 300]);
     let reads = rng.pick(&[1, 1, 2, 7, 8, 9, 16]);
     let mut hand = Hand::same(length, reads, &[]);
     hand.n.clear();
@@ -251,7 +251,7 @@ fn wild_record(
     with_n: bool,
     pos_t: bool,
 ) {
-    let count = rng.pick(&[0, 0, 1, 1, 2, 3]);
+    let count = rng.pick(&[0, 0, 1, 1, 2, 3, 30, 31]);
     let flag = rng.pick(&[0b100, 0b000, 0b010, 0b001, 0b010, 0b001]);
     let mut raw4 = false;
     if perfect {
@@ -272,7 +272,7 @@ fn wild_record(
         packed(rng, dna, length, if raw4 { 4 } else { 2 });
     }
     if with_n && !raw4 {
-        let count = rng.pick(&[1, 1, 2, 3]);
+        let count = rng.pick(&[1, 1, 2, 3, 30, 31, 32]);
         dna.push(count);
         for _ in 0..count {
             small_number(rng, dna, 2);
@@ -397,7 +397,7 @@ fn stepped(rng: &mut Prng, first: u64, last: u64) -> Vec<Option<u64>> {
     positions
 }
 
-/// Equal lengths whose sum passes 32 bits, with a raw DNA size that is its low 32 bits or near them.
+/// Equal lengths whose sum passes 32 bits, with a raw DNA size that is its low 32 bits or near.
 pub fn sum_of_lengths(rng: &mut Prng, _: &Stock) -> Work {
     let reads = rng.pick(&[42_949, 42_950, 49_999, 50_000]);
     let length = rng.pick(&[99_999, 100_000, 100_000]);
@@ -419,7 +419,8 @@ pub fn long_reads(rng: &mut Prng, stock: &Stock) -> Work {
         lengths.push(rng.pick(&marks));
         lengths.extend(vec![rng.range(1, 40); rng.below(3) as usize]);
     }
-    let shape = Shape { bases: 0, max_reads: 0, max_length: 0, max_carried: 2 };
+    let max_carried = rng.pick(&[0, 2, 70_000]);
+    let shape = Shape { bases: 0, max_reads: 0, max_length: 0, max_carried };
     let mut plan = generate_with_lengths(rng, shape, &stock.long, lengths);
     if rng.once_in(3) {
         let number = rng.pick(&[9, 10, 12, 12, 15, 17, 19, 20, 20, 20, 21]);
@@ -447,7 +448,7 @@ pub fn many_reads(rng: &mut Prng, _: &Stock) -> Work {
 fn drawn_file(rng: &mut Prng) -> (ReferencePlan, Vec<Plan>) {
     let shape = Shape { max_reads: 9, max_length: rng.pick(&[4, 24, 40]), ..small_shape(rng) };
     let reference = generate_reference(rng, shape.bases);
-    let count = rng.pick(&[0, 1, 2, 2, 3, 4]);
+    let count = rng.pick(&[0, 0, 1, 1, 2, 2, 2, 2, 3, 3, 4, 4, 30]);
     let plans = (0..count).map(|_| generate_under(rng, shape, &reference)).collect();
     (reference, plans)
 }
@@ -492,10 +493,12 @@ pub fn damaged_file(rng: &mut Prng, _: &Stock) -> Work {
     reading(rng, reference.bases, bytes(reference.bytes), file)
 }
 
+/// A file that is cut anywhere, or where one of its blocks ends, or a byte off.
 pub fn cut_file(rng: &mut Prng, _: &Stock) -> Work {
     let (reference, plans) = drawn_file(rng);
     let mut file = joined(&plans);
-    let length = rng.range(0, file.len() as u64) as usize;
-    file.truncate(length);
+    let any = rng.range(0, file.len() as u64) as usize;
+    let end = joined(&plans[..plans.len() / 2]).len();
+    file.truncate(rng.pick(&[any, any, end, end.saturating_sub(1), end + 1]));
     reading(rng, reference.bases, bytes(reference.bytes), file)
 }

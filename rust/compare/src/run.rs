@@ -18,6 +18,8 @@ pub struct Settings {
     pub first: u64,
     pub count: u64,
     pub threads: usize,
+    /// Whether the number of each case is printed before it is run.
+    pub say: bool,
 }
 
 /// A case on which the library and the second implementation differ.
@@ -57,7 +59,7 @@ pub fn run(
         tally: Mutex::new(Tally::default()),
     };
     std::thread::scope(|scope| {
-        let work = || run_chunks(library, stock, settings.seed, &progress);
+        let work = || run_chunks(library, stock, settings, &progress);
         let threads: Vec<_> = (0..settings.threads).map(|_| scope.spawn(work)).collect();
         while threads.iter().any(|thread| !thread.is_finished()) {
             std::thread::sleep(Duration::from_millis(20));
@@ -68,7 +70,7 @@ pub fn run(
     (finding, progress.tally.into_inner().unwrap())
 }
 
-fn run_chunks(library: &dyn Library, stock: &Stock, seed: u64, progress: &Progress) {
+fn run_chunks(library: &dyn Library, stock: &Stock, settings: Settings, progress: &Progress) {
     let mut tally = Tally::default();
     loop {
         let from = progress.next.fetch_add(CHUNK, Relaxed);
@@ -77,7 +79,10 @@ fn run_chunks(library: &dyn Library, stock: &Stock, seed: u64, progress: &Progre
                 progress.tally.lock().unwrap().add(&tally);
                 return;
             }
-            let case = draw(stock, seed, number);
+            if settings.say {
+                eprintln!("case {number}");
+            }
+            let case = draw(stock, settings.seed, number);
             if let Err(disagreement) = checked(library, &case, &mut tally) {
                 progress.keep(Finding { number, case, disagreement });
             }

@@ -133,7 +133,8 @@ fn gap(rng: &mut Prng, wide: bool) -> u64 {
     }
 }
 
-/// None, or up to 33 N: anywhere, or 63 letters apart from the first aligned one, where fillers are.
+/// None, or up to 33 N: anywhere, or 63 letters apart from the first aligned one on, where fillers
+/// are.
 fn put_n(rng: &mut Prng, letters: &mut [u8], first: usize) {
     let count = rng.pick(&[0, 0, 0, 1, 2, 30, 31, 32, 33]);
     let (apart, by_steps) = (rng.pick(&[1, 63]), rng.coin());

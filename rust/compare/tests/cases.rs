@@ -1,5 +1,5 @@
-//! Property: a case is drawn from its seed and number alone, and what must be met is met. Catches: a
-//! case that depends on the one before, a refusal or path that comes up no more.
+//! Property: a case is drawn from its seed and number alone, and what must be met is met. Catches:
+//! a case that depends on the one before, a refusal or path that comes up no more.
 
 use compare::case::Work;
 use compare::draw::draw;
@@ -35,7 +35,7 @@ fn the_same_seed_and_number_give_the_same_case() {
 fn every_answer_and_path_is_met() {
     let stock = &Stock::new();
     let tally = |threads| {
-        let settings = Settings { seed: 3, first: 0, count: 40_000, threads };
+        let settings = Settings { seed: 3, first: 0, count: 40_000, threads, say: false };
         let (finding, tally) = run(&Second, stock, settings, |_| {});
         assert!(finding.is_none());
         tally

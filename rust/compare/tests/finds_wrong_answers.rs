@@ -1,7 +1,7 @@
 //! Property: a library with one thing wrong is found out, and the report says what and where.
 //! Catches: a comparison that looks away.
 
-use compare::library::{Library, Linked};
+use compare::library::{Library, Linked, Stamp, Under};
 use compare::report::report;
 use compare::run::{run, Finding, Settings};
 use compare::stock::Stock;
@@ -35,36 +35,29 @@ impl Wrong {
 impl Library for Wrong {
     fn decode(
         &self,
-        bases: u64,
-        reference: &[u8],
+        under: Under,
         input: &[u8],
         letters: &mut [u8],
         ends: &mut [u32],
         answer: &mut Answer,
     ) -> u64 {
-        Linked.decode(bases, reference, input, letters, ends, answer);
+        Linked.decode(under, input, letters, ends, answer);
         if let Some(spoil) = self.decode {
             spoil(answer, letters, ends);
         }
         self.number(answer[0])
     }
 
-    fn validate_block(
-        &self,
-        bases: u64,
-        reference: &[u8],
-        input: &[u8],
-        answer: &mut Answer,
-    ) -> u64 {
-        Linked.validate_block(bases, reference, input, answer);
+    fn validate_block(&self, under: Under, input: &[u8], answer: &mut Answer) -> u64 {
+        Linked.validate_block(under, input, answer);
         if let Some(spoil) = self.validate_block {
             spoil(answer, input);
         }
         self.number(answer[0])
     }
 
-    fn validate(&self, bases: u64, reference: &[u8], file: &[u8], answer: &mut Answer) -> u64 {
-        Linked.validate(bases, reference, file, answer);
+    fn validate(&self, under: Under, file: &[u8], answer: &mut Answer) -> u64 {
+        Linked.validate(under, file, answer);
         if let Some(spoil) = self.validate {
             spoil(answer, file);
         }
@@ -73,15 +66,13 @@ impl Library for Wrong {
 
     fn encode(
         &self,
-        bases: u64,
-        reference: &[u8],
+        under: Under,
         columns: &Columns,
-        b_id: u64,
-        c_time: u64,
+        stamp: Stamp,
         out: &mut [u8],
         answer: &mut Answer,
     ) -> u64 {
-        Linked.encode(bases, reference, columns, b_id, c_time, out, answer);
+        Linked.encode(under, columns, stamp, out, answer);
         if let Some(spoil) = self.encode {
             spoil(answer, out);
         }
@@ -105,7 +96,7 @@ impl Library for Wrong {
 const SEED: u64 = 5;
 
 fn found(stock: &Stock, library: &dyn Library, count: u64) -> Option<Finding> {
-    let settings = Settings { seed: SEED, first: 0, count, threads: 2 };
+    let settings = Settings { seed: SEED, first: 0, count, threads: 2, say: false };
     run(library, stock, settings, |_| {}).0
 }
 

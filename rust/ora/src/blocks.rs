@@ -93,8 +93,8 @@ pub fn block_length(input: &[u8]) -> Result<usize, Refusal> {
 }
 
 /// The length of a block whose sections are all empty, which is that of its header; or why the
-/// header is refused. With no section there is little to judge, so that a call that judges the whole
-/// block can be asked.
+/// header is refused. With no section there is little to judge, so that a call which judges the
+/// whole block can be asked.
 fn length_without_sections(input: &[u8]) -> Result<usize, Refusal> {
     let no_bases = Reference::new(0, &[])?;
     match validate_block(&no_bases, input) {

@@ -145,8 +145,8 @@ impl Reads {
     }
 }
 
-/// The reads of a block to be written and their candidates as plain slices, as the C interface takes
-/// them. Each but `letters` has one element for each read.
+/// The reads of a block to be written and their candidates as plain slices, as the C interface
+/// takes them. Each but `letters` has one element for each read.
 #[derive(Clone, Copy, Debug, Default)]
 pub struct Columns<'a> {
     /// The letters of all reads, one read after the other.
@@ -190,8 +190,8 @@ pub fn encode(
     Ok(block)
 }
 
-/// Writes the block to the start of the caller's buffer, with the refusals 30 to 34, and answers its
-/// length in bytes. What lies past it keeps what it held, and after a refusal all does.
+/// Writes the block to the start of the caller's buffer, with the refusals 30 to 34, and answers
+/// its length in bytes. What lies past it keeps what it held, and after a refusal all does.
 ///
 /// ```
 /// use ora::{encode_into, Columns, Reference};

@@ -1,10 +1,10 @@
 //! Reads and writes opened ORA blocks: DNA reads kept as places on a reference with lists of
-//! differences. This crate is a safe wrapper around a library whose every function is proved to meet
-//! its contract; `docs/FORMAT.md` describes the format and the refusals.
+//! differences. This crate is a safe wrapper around a library whose every function is proved to
+//! meet its contract; `docs/FORMAT.md` describes the format and the refusals.
 //!
 //! | To | Call |
 //! |---|---|
-//! | decode a block | [`decode`], [`Decoded::decode`] again and again, [`decode_into`] own buffers |
+//! | decode a block | [`decode`], [`Decoded::decode`] for many, [`decode_into`] own buffers |
 //! | judge a block or a file | [`validate_block`], [`validate`] |
 //! | write a block | [`encode`], [`encode_into`] an own buffer |
 //! | walk over a file's blocks, without a reference | [`blocks`], [`block_length`] |
@@ -32,7 +32,8 @@
 //! leaves every buffer as it was. All types can be sent to and shared between threads, and calls on
 //! different threads do not wait for each other.
 //!
-//! The static library is linked from `target/staticlib/libcapi.a`, which `rt staticlib capi` writes.
+//! The static library is linked from `target/staticlib/libcapi.a`, which `rt staticlib capi`
+//! writes.
 
 #![deny(missing_docs)]
 #![deny(unsafe_code)]

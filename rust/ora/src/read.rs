@@ -88,11 +88,12 @@ pub fn validate(reference: &Reference, file: &[u8]) -> Result<FileSummary, Refus
 }
 
 /// Decodes the block at the start of the input into the caller's buffers, with the refusals 1 to
-/// 22: the letters of all reads, one after the other in ASCII capitals, and for each read the number
-/// of letters up to its end. What lies past them keeps what it held, and after a refusal all does.
+/// 22: the letters of all reads, one after the other in ASCII capitals, and for each read the
+/// number of letters up to its end. What lies past them keeps what it held, and after a refusal
+/// all does.
 ///
-/// A block needs as many letters and ends as [`validate_block`] counts letters and reads; with fewer
-/// it is refused with 22.
+/// A block needs as many letters and ends as [`validate_block`] counts letters and reads; with
+/// fewer it is refused with 22.
 ///
 /// ```
 /// use ora::{decode_into, encode, Candidate, Reads, Reference};
@@ -157,8 +158,8 @@ impl Decoded {
         Decoded::default()
     }
 
-    /// Decodes the block at the start of the input in place of the one before. After a refusal (1 to
-    /// 21) that one is still there.
+    /// Decodes the block at the start of the input in place of the one before. After a refusal (1
+    /// to 21) that one is still there.
     ///
     /// ```
     /// use ora::{encode, Candidate, Decoded, Reads, Reference};

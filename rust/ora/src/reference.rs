@@ -34,7 +34,7 @@ impl<'a> Reference<'a> {
     }
 
     /// A reference as the listing program's files hold it: the number of bases in 8 bytes, the
-    /// lowest first, and then the packed bases. Refused with 1 also where the 8 bytes are not there.
+    /// lowest first, and then the packed bases. Refused with 1 also where the 8 bytes are missing.
     pub fn from_file(file: &'a [u8]) -> Result<Reference<'a>, Refusal> {
         match file.split_first_chunk() {
             Some((bases, bytes)) => Reference::new(u64::from_le_bytes(*bases), bytes),

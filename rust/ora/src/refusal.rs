@@ -100,7 +100,8 @@ impl RefusalKind {
 /// assert_eq!((refusal.number, refusal.block, refusal.read), (3, 0, 0));
 /// assert_eq!(refusal.kind(), Some(RefusalKind::MagicWrong));
 /// assert_eq!(refusal.name(), "MagicWrong");
-/// assert_eq!(refusal.to_string(), "refused 3, block 0, read 0: the first two bytes are not 49 7C");
+/// let text = refusal.to_string();
+/// assert_eq!(text, "refused 3, block 0, read 0: the first two bytes are not 49 7C");
 /// # Ok::<(), ora::Refusal>(())
 /// ```
 #[derive(Clone, Copy, Debug, PartialEq, Eq, Hash)]

@@ -1,6 +1,6 @@
 //! Property: at the edges of sizes every call answers as 01 says, and a refused one leaves its
-//! buffers as they were. Catches: a pointer of an empty slice mistaken for none, a length that is one
-//! off, letters written before a refusal, a block without sections that has no end.
+//! buffers as they were. Catches: the pointer of an empty slice taken for a fault, a length that is
+//! one off, letters written before a refusal, a block without sections that has no end.
 
 use ora::*;
 use second::cases_by_hand::{Hand, BASES, REFERENCE};

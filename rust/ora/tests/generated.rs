@@ -1,6 +1,6 @@
 //! Property: on generated, spoiled and damaged blocks the wrapper's types hold what the second
-//! implementation answers. Catches: a count in another field, a boundary that is not the header's, a
-//! grown buffer that is too short.
+//! implementation answers. Catches: a count in another field, a boundary that is not the header's,
+//! a grown buffer that is too short.
 
 use ora::*;
 use second::generator::{generate, generate_reference, generate_under, Shape};

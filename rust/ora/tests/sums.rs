@@ -1,5 +1,5 @@
-//! Property: 01's "Sums done by hand" hold through the wrapper. Catches: arguments in another order,
-//! slots of an answer exchanged, a strand that is not the writer's.
+//! Property: 01's "Sums done by hand" hold through the wrapper. Catches: arguments in another
+//! order, slots of an answer exchanged, a strand that is not the writer's.
 
 use ora::*;
 use second::cases_by_hand::{Hand, BASES, REFERENCE};
