@@ -102,7 +102,7 @@ fn found(stock: &Stock, library: &dyn Library, count: u64) -> Option<Finding> {
 
 /// The wrong library is found out in a call, by a difference whose description has these words.
 fn expect(stock: &Stock, wrong: Wrong, call: &str, what: &str) {
-    let finding = found(stock, &wrong, 2_000).unwrap_or_else(|| panic!("{call}, {what}: missed"));
+    let finding = found(stock, &wrong, 20_000).unwrap_or_else(|| panic!("{call}, {what}: missed"));
     assert_eq!(finding.disagreement.call, call, "{:?}", finding.disagreement);
     assert!(finding.disagreement.what.contains(what), "{:?}", finding.disagreement);
     let text = report(&wrong, SEED, &finding);
