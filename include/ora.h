@@ -8,8 +8,8 @@
  * and a length, counted in elements.
  *   - A pointer is never null and is aligned for its element, also where the length is 0: any such
  *     pointer may then be passed, as nothing is read or written through it.
- *   - A buffer that is written to (letters, ends, out, answer) holds initialised memory and must
- *     not overlap any other. Those that are only read (const) may share memory.
+ *   - A buffer that is written to (letters, ends, out, answer) must not overlap any other. Those
+ *     that are only read (const) may share memory.
  *   - A buffer may be longer than need be: what lies past the result keeps what it held.
  *   - After a refusal letters, ends and out hold what they held before. Only answer is written.
  *

@@ -47,14 +47,17 @@ paths! {
     Letters32768: "a read of 32,768 letters";
     LettersAbove32768: "a read of more than 32,768 letters";
     LettersAbove65535: "a read of more than 65,535 letters";
+    Raw4Above65535: "raw4 of more than 65,535 letters";
     Letters100000: "a read of 100,000 letters";
     List31: "an N list of 31";
+    NOnLast: "an N list of 31 up to the last letter";
     OffsetWords2: "an N offset of 2 words";
     OffsetWords3: "an N offset of 3 words or more";
     NUnderClip: "an N on a clip";
     EntryUnderN: "an entry under an N";
     Global31: "31 entries, global";
     Local31: "31 entries, local";
+    EntryOnLast: "31 entries up to the last aligned letter";
     Offset63: "an entry 63 after the one before";
     FillersAlone: "fillers alone";
     Clip255Left: "a left clip of 255";
@@ -233,7 +236,9 @@ fn of_record(reference: &Reference, record: &Record, tally: &mut Tally) {
     tally.path_if(Path::LettersAbove32768, length > 32_768);
     tally.path_if(Path::LettersAbove65535, length > 65_535);
     tally.path_if(Path::Letters100000, length == 100_000);
-    tally.path_if(Path::List31, record.n_positions.len() == 31);
+    let full = record.n_positions.len() == 31;
+    tally.path_if(Path::List31, full);
+    tally.path_if(Path::NOnLast, full && record.n_positions.last() == Some(&(length - 1)));
     let mut position = 0;
     for &n_position in &record.n_positions {
         tally.path_if(Path::OffsetWords2, (32_768..65_536).contains(&(n_position - position)));
@@ -251,6 +256,7 @@ fn of_record(reference: &Reference, record: &Record, tally: &mut Tally) {
             tally.path_if(Path::Raw4NoN, ambiguous == 0);
             tally.path_if(Path::Raw4Full, ambiguous >= 32);
             tally.path_if(Path::Raw4Odd, length % 2 == 1);
+            tally.path_if(Path::Raw4Above65535, length > 65_535);
         }
         Kind::Perfect(place) | Kind::Global(place, _) | Kind::Local(place, _, _) => {
             of_placed(reference, record, place, tally);
@@ -282,6 +288,8 @@ fn of_placed(reference: &Reference, record: &Record, place: &Placement, tally: &
     let full = entries.len() == 31;
     tally.path_if(Path::Global31, full && matches!(record.kind, Kind::Global(..)));
     tally.path_if(Path::Local31, full && matches!(record.kind, Kind::Local(..)));
+    let on_last = entries.last().is_some_and(|entry| entry.place == span - 1);
+    tally.path_if(Path::EntryOnLast, full && on_last);
     let under_n = |place_of: u64| record.n_positions.contains(&(place.left + place_of));
     tally.path_if(Path::EntryUnderN, entries.iter().any(|entry| under_n(entry.place)));
     let far = entries.windows(2).any(|pair| pair[1].place == pair[0].place + 63);

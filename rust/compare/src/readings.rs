@@ -303,6 +303,52 @@ fn packed(rng: &mut Prng, dna: &mut Vec<u8>, letters: u64, width: u64) {
     dna.extend(packed);
 }
 
+/// A global or local record with 30 or 31 entries and an N list of 30 or 31, whose last stand on the
+/// last letter or one or two past it; now and then a later offset is 0.
+pub fn full_lists(rng: &mut Prng, _: &Stock) -> Work {
+    let reference = generate_reference(rng, 300);
+    let length = rng.range(70, 200);
+    let clips = rng.pick(&[(0, 0), (0, 0), (1, 2), (3, 0)]);
+    let span = length - clips.0 - clips.1;
+    let with_n = rng.coin();
+    let bit = |set: bool| (set as u8) << 7;
+    let mut dna = vec![0, bit(rng.coin()), bit(with_n), 0];
+    let entries = full_list(rng, span);
+    let global = if clips == (0, 0) { 0b100 } else { 0 };
+    dna.extend([(entries.len() as u8) << 3 | global, rng.below(90) as u8, 0, 0, 0]);
+    dna.extend(entries.iter().map(|&offset| (offset.min(63) << 2 | rng.below(4)) as u8));
+    if global == 0 {
+        dna.extend([clips.0 as u8, clips.1 as u8, 0xE4 & 0xFF << (8 - 2 * (clips.0 + clips.1))]);
+    }
+    if with_n {
+        let n_offsets = full_list(rng, length);
+        dna.push(n_offsets.len() as u8);
+        dna.extend(n_offsets.iter().flat_map(|&offset| (offset as u16).to_le_bytes()));
+    }
+    let block = Hand::same(length as i32, 1, &dna).bytes();
+    reading(rng, reference.bases, bytes(reference.bytes), block)
+}
+
+/// 30 or 31 offsets that rise to the last of so many places, or past it.
+fn full_list(rng: &mut Prng, places: u64) -> Vec<u64> {
+    let count = rng.pick(&[30, 31, 31]);
+    let mut rising: Vec<u64> = Vec::new();
+    while rising.len() < count - 1 {
+        let place = rng.below(places - 1);
+        if !rising.contains(&place) {
+            rising.push(place);
+        }
+    }
+    rising.push(places - 1 + rng.pick(&[0, 0, 0, 1, 2]));
+    rising.sort();
+    let before = [&[0], &rising[..count - 1]].concat();
+    let mut offsets: Vec<u64> = rising.iter().zip(before).map(|(to, from)| to - from).collect();
+    if rng.once_in(8) {
+        offsets[rng.range(1, count as u64 - 1) as usize] = 0;
+    }
+    offsets
+}
+
 /// A case of the corpus, as it is or with one or two bytes changed.
 pub fn corpus(rng: &mut Prng, stock: &Stock) -> Work {
     let mut case = rng.pick(&stock.readings);
@@ -366,7 +412,8 @@ pub fn steps(rng: &mut Prng, stock: &Stock) -> Work {
     reading(rng, stock.long.bases, stock.long_bytes.clone(), input)
 }
 
-/// The same near the last base that a reference can have, and past 32 bits.
+/// The same near the last base that a reference can have, and past 32 bits; seldom with a base more
+/// than it can have, in as many bytes.
 pub fn steps_on_the_largest(rng: &mut Prng, stock: &Stock) -> Work {
     let length = rng.pick(&[1, 3, 4, 9]);
     let last = MAX_BASES - length;
@@ -376,7 +423,8 @@ pub fn steps_on_the_largest(rng: &mut Prng, stock: &Stock) -> Work {
     let furthest = rng.pick(&[last, last + 70_000]);
     let positions = stepped(rng, first, furthest);
     let input = placed_block(rng, length, &positions);
-    reading(rng, MAX_BASES, stock.largest.clone(), input)
+    let bases = MAX_BASES + rng.once_in(20) as u64;
+    reading(rng, bases, stock.largest.clone(), input)
 }
 
 /// Positions that are mostly not past `last`.
@@ -395,6 +443,28 @@ fn stepped(rng: &mut Prng, first: u64, last: u64) -> Vec<Option<u64>> {
         positions.push(Some(at));
     }
     positions
+}
+
+/// Words around 32768, and around what makes 100,000 with three of them.
+const SIZE_WORDS: [u32; 9] = [0, 1, 32_767, 32_768, 32_769, 65_535, 1_695, 1_696, 1_697];
+
+/// Lengths in words around 32768 and the most that a read can have, and no DNA section.
+pub fn size_words(rng: &mut Prng, _: &Stock) -> Work {
+    let reads = rng.range(1, 3);
+    let mut sizes = vec![0, 0];
+    let mut sum = 0;
+    for _ in 0..reads {
+        let mut words: Vec<u32> = Vec::new();
+        for _ in 0..rng.below(4) {
+            words.push(rng.pick(&[32_768, 32_768, 32_768, 32_769]));
+        }
+        words.push(rng.pick(&SIZE_WORDS));
+        sizes.extend(words.iter().flat_map(|&word| (word as u16).to_le_bytes()));
+        sum += words.iter().sum::<u32>();
+    }
+    let mut hand = Hand::sized(reads as i32, sum, &sizes);
+    hand.n = vec![0];
+    reading(rng, 0, bytes(Vec::new()), hand.bytes())
 }
 
 /// Equal lengths whose sum passes 32 bits, with a raw DNA size that is its low 32 bits or near.

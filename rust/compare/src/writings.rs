@@ -242,10 +242,11 @@ fn put<T>(column: &mut [T], place: usize, value: T) {
     }
 }
 
-/// Reads of up to 100,000 letters: placed with few differences, raw with an N list in words, raw4.
+/// Reads of up to 100,000 letters, and seldom one more: placed with few differences, raw with an N
+/// list in words, raw4.
 pub fn long_reads(rng: &mut Prng, stock: &Stock) -> Work {
     let reference = Reference::new(stock.long.bases, &stock.long_bytes).unwrap();
-    let marks = [32_767, 32_768, 32_769, 50_000, 65_535, 65_536, 65_537, 99_999, 100_000];
+    let marks = [32_767, 32_768, 32_769, 50_000, 65_535, 65_536, 65_537, 99_999, 100_000, 100_001];
     let mut proposals = Vec::new();
     for _ in 0..rng.pick(&[1, 1, 2]) {
         let length = rng.pick(&marks);
@@ -255,9 +256,10 @@ pub fn long_reads(rng: &mut Prng, stock: &Stock) -> Work {
             let place = rng.pick(&[0, 63, 64, 1953, 1954, length as usize - 1]);
             read.letters[place] = other_letter(rng, read.letters[place]);
         }
-        for _ in 0..rng.pick(&[0, 1, 2, 3, 31, 32, 40]) {
+        for index in 0..rng.pick(&[0, 1, 2, 3, 31, 32, 40]) {
             let any = rng.below(length) as usize;
-            read.letters[rng.pick(&[any, any, any, 0, length as usize - 1])] = b'N';
+            let last = length as usize - 1;
+            read.letters[if index < 2 { rng.pick(&[any, 0, last]) } else { any }] = b'N';
         }
         if rng.once_in(4) {
             read.strand = 0;

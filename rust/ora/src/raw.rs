@@ -81,10 +81,10 @@ mod c {
     }
 }
 
-// The calls below have one reason in common. `include/ora.h` asks of a caller that each pointer is
-// not null, is aligned, and has as many initialised elements behind it as its length says, and that
-// a buffer which is written to overlaps no other: the references to slices say all of that, for
-// empty ones too. An answer has the sixteen elements that are written. No pointer is kept.
+// The calls below are safe for one reason. `include/ora.h` asks of a caller that each pointer is not
+// null, is aligned, and has as many elements behind it as its length says, and that a buffer which
+// is written to overlaps no other: references to slices say all of that, also of empty ones. An
+// answer has the sixteen elements that are written. No pointer is kept after the call.
 
 /// `ora_decode`: the letters and ends of the block at the start of the input.
 pub fn decode(
