@@ -34,7 +34,7 @@ pub struct Reading {
     pub reference: Bytes,
     pub input: Box<[u8]>,
     pub room: Room,
-    /// A section number to be asked for beside 0 to 8.
+    /// A number of no section, to be asked for beside 0 to 8.
     pub section: u64,
 }
 

@@ -4,7 +4,7 @@
 use crate::case::{Case, Reading, Room, Work, Writing};
 use crate::lent::{Element, Lent};
 use crate::library::{Library, Second};
-use crate::paths;
+use crate::observe;
 use crate::tally::{Call, Tally};
 use ora::raw::{Answer, SLOTS};
 
@@ -55,7 +55,7 @@ fn check_reading(
     tally.answer(Call::ValidateBlock, judged[0]);
     tally.answer(Call::Validate, file[0]);
     tally.answer(Call::Decode, decoded[0]);
-    paths::of_reading(reading, &judged, &file, &decoded, tally);
+    observe::of_reading(reading, &judged, &file, &decoded, tally);
     Ok(())
 }
 
@@ -98,7 +98,7 @@ fn check_writing(
     tally.answer(Call::Encode, answer[0]);
     if answer[0] == 0 {
         let block = &lent[0].held()[..length];
-        paths::of_writing(writing, block, tally);
+        observe::of_writing(writing, block, tally);
         check_written(library, writing, block, margins, tally)?;
     }
     Ok(())

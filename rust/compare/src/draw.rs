@@ -2,6 +2,7 @@
 //! give the same case, whatever was drawn before.
 
 use crate::case::{Case, Work};
+use crate::readings::{files, lengths, records, steps};
 use crate::stock::Stock;
 use crate::{readings, writings};
 use second::prng::Prng;
@@ -18,19 +19,19 @@ const FAMILIES: &[Family] = &[
     (400, "edited sections", readings::edited_sections),
     (300, "cut block", readings::cut),
     (500, "header fields", readings::header_fields),
-    (300, "wild records", readings::wild_records),
-    (200, "full lists", readings::full_lists),
+    (300, "wild records", records::wild_records),
+    (200, "full lists", records::full_lists),
     (600, "corpus, read", readings::corpus),
-    (250, "steps", readings::steps),
-    (150, "steps on the largest reference", readings::steps_on_the_largest),
-    (80, "words of lengths", readings::size_words),
-    (30, "sum of lengths", readings::sum_of_lengths),
-    (120, "long reads", readings::long_reads),
-    (6, "many reads", readings::many_reads),
-    (300, "sound file", readings::sound_file),
-    (400, "file with a fault", readings::file_with_fault),
-    (250, "damaged file", readings::damaged_file),
-    (200, "cut file", readings::cut_file),
+    (250, "steps", steps::steps),
+    (150, "steps on the largest reference", steps::steps_on_the_largest),
+    (80, "words of lengths", lengths::size_words),
+    (30, "sum of lengths", lengths::sum_of_lengths),
+    (120, "long reads", lengths::long_reads),
+    (12, "many reads", lengths::many_reads),
+    (300, "sound file", files::sound_file),
+    (400, "file with a fault", files::file_with_fault),
+    (250, "damaged file", files::damaged_file),
+    (200, "cut file", files::cut_file),
     (800, "written", writings::random),
     (700, "written, one fault", writings::one_fault),
     (150, "written, two faults", writings::two_faults),

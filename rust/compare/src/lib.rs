@@ -19,7 +19,7 @@
 //! | `case`, `lent` | what a case is; lent buffers that tell what was written |
 //! | `draw`, `readings`, `writings`, `stock` | the families of cases, and what they draw from |
 //! | `check` | one case through both sides |
-//! | `tally`, `paths` | what was met how often |
+//! | `tally`, `paths`, `observe` | what was met how often |
 //! | `run` | many cases on all cores |
 //! | `shrink`, `report` | what is printed where the two differ |
 //! | `sample` | the files of `examples/data` |
@@ -29,6 +29,7 @@ pub mod check;
 pub mod draw;
 pub mod lent;
 pub mod library;
+pub mod observe;
 pub mod paths;
 pub mod readings;
 pub mod report;

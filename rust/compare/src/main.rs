@@ -22,7 +22,7 @@ const COUNT: u64 = 1_000_000;
 
 /// Of so many cases one must give each refusal of each call, and of so many each path.
 const CASES_FOR_AN_ANSWER: u64 = 1_000;
-const CASES_FOR_A_PATH: u64 = 10_000;
+const CASES_FOR_A_PATH: u64 = 20_000;
 
 fn main() -> ExitCode {
     let Some(settings) = settings(std::env::args().skip(1)) else {

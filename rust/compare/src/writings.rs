@@ -200,7 +200,7 @@ pub fn on_the_largest(rng: &mut Prng, stock: &Stock) -> Work {
         }
         proposals.push(read);
     }
-    // The length of the block is found with a reference that the call can own.
+    // The call would own its reference; the largest is shared.
     let none = ReferencePlan { bases: 0, letters: Vec::new(), bytes: Vec::new() };
     let call = EncodeCall::new(&none, &proposals, 3, 4);
     let writing = Writing::of_call(call);
