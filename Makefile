@@ -8,7 +8,7 @@
 # wrapper (rust/ora) and the examples in C; it needs cargo, a C compiler, and x86-64. SEED and COUNT choose other
 # cases; with CASE one case of a seed is run, and nothing else.
 # make compare-valgrind: fewer cases, in a memory checker; it needs valgrind too.
-# make sample: makes the files of examples/data again; it needs what make compare does.
+# make sample: makes the samples in examples/data again; it needs what make compare does.
 .PHONY: run test trace second corpus bench library compare compare-valgrind sample
 run:
 	@echo "make run: the listing program is not part of this version yet; 'make test' checks what is" >&2; exit 2
