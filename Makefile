@@ -9,7 +9,12 @@
 # cases; with CASE one case of a seed is run, and nothing else.
 # make compare-valgrind: fewer cases, in a memory checker; it needs valgrind too.
 # make sample: makes the samples in examples/data again; it needs what make compare does.
-.PHONY: run test trace second corpus bench library compare compare-valgrind sample
+# make cli: builds the command line tool (docs/CLI.md), target/cargo/release/frubanto; it needs the toolchain, cargo
+# and four crates, of Debian's packages or the usual registry. make cli-test: its tests.
+# make pipeline: reads of a simulator, mapped, encoded and decoded again; it needs make cli, bwa, minimap2 and samtools.
+# make pipeline-bench: speed and memory of the tool on 2,000,000 reads, beside samtools; it needs the same.
+.PHONY: run test trace second corpus bench library compare compare-valgrind sample cli cli-test pipeline \
+  pipeline-bench
 run:
 	@echo "make run: the listing program is not part of this version yet; 'make test' checks what is" >&2; exit 2
 
@@ -73,3 +78,15 @@ sample: library
 	@command -v cargo >/dev/null 2>&1 \
 	  || { echo "sample: Rust is missing: there is no command 'cargo' on the PATH" >&2; exit 2; }
 	@cargo run --release --quiet --offline --manifest-path $(COMPARE) --bin make_sample -- examples/data
+
+cli:
+	@sh rust/cli/cargo.sh build --release
+
+cli-test:
+	@sh rust/cli/cargo.sh test
+
+pipeline: cli
+	@bash rust/cli/pipeline.sh
+
+pipeline-bench: cli
+	@bash rust/cli/pipeline.sh bench
