@@ -2,9 +2,10 @@
 //! under another one, and where the command fails it is removed.
 
 use crate::failure::{is_stream, shown, Failure};
-use std::fs::{self, File, OpenOptions};
+use std::fs::{self, File, Metadata, OpenOptions};
 use std::io::{self, IsTerminal, Seek, SeekFrom, Write};
 use std::os::fd::AsFd;
+use std::os::unix::fs::MetadataExt;
 use std::path::{Path, PathBuf};
 
 /// How much is gathered before it is written.
@@ -35,8 +36,8 @@ impl Output {
     }
 
     /// A file with this name, or standard output for `-`. What is there and is no ordinary file (a
-    /// device, a pipe) is written to as it is.
-    pub fn create(path: &Path) -> Result<Output, Failure> {
+    /// device, a pipe) is written to as it is. None of the inputs can be replaced.
+    pub fn create(path: &Path, inputs: &[&Path]) -> Result<Output, Failure> {
         if is_stream(path) {
             return Output::standard();
         }
@@ -48,6 +49,9 @@ impl Output {
             }
             Ok(found) if !found.is_file() => {
                 (OpenOptions::new().write(true).open(path).map_err(cannot)?, None)
+            }
+            Ok(found) if inputs.iter().any(|input| is_same(&found, input)) => {
+                return Err(cannot(io::Error::other("it is one of the files that are read")));
             }
             // A link stays, and what it leads to is replaced.
             Ok(_) => create_beside(fs::canonicalize(path).map_err(cannot)?).map_err(cannot)?,
@@ -112,6 +116,11 @@ impl Drop for Output {
             let _ = fs::remove_file(first);
         }
     }
+}
+
+/// Whether a path leads to this file.
+fn is_same(found: &Metadata, path: &Path) -> bool {
+    fs::metadata(path).is_ok_and(|other| (found.dev(), found.ino()) == (other.dev(), other.ino()))
 }
 
 /// Creates a file beside the one that it becomes.

@@ -14,12 +14,12 @@ const UNPACK: &str = "unpack it, as in `gzip -dc GENOME.fa.gz | frubanto referen
 
 pub fn run(arguments: &ReferenceArguments) -> Result<Status, Failure> {
     let mut text = Text::open(&arguments.genome, UNPACK)?;
-    let mut output = Output::create(&arguments.output)?;
+    let mut output = Output::create(&arguments.output, &[&arguments.genome])?;
     if !output.is_file() {
         let what = "a reference is written to a file alone, as its index stands beside it";
         return Err(Failure::Unusable(what.to_string()));
     }
-    let mut index = Output::create(&index_path(&arguments.output))?;
+    let mut index = Output::create(&index_path(&arguments.output), &[&arguments.genome])?;
     let packing = pack(&mut text, &mut output)?;
     for sequence in &packing.sequences {
         index.write(&sequence.index_line())?;

@@ -1,0 +1,330 @@
+//! Property: decode, list, validate and blocks print what the blocks hold, up to the first that is
+//! refused, and say which that is and why. Catches: blocks out of order, a refused block that is
+//! printed or hides those before it, an index or offset that is off, a status that is not the rule's.
+
+mod common;
+use common::*;
+use second::listing::listing;
+use second::mutators::{damage, spoil};
+use second::prng::Prng;
+
+#[test]
+fn the_sample_block() {
+    let folder = Folder::new("sample");
+    let reference = folder.write("ref", small_reference());
+    let blocks = folder.write("one.ora", sample_block());
+
+    let listed = run(&["list", "-r", &reference, &blocks]).accepted();
+    assert_eq!(listed.text(), format!("{SAMPLE_LINES}end blocks 1\n"));
+    assert_eq!(run(&["decode", "-r", &reference, &blocks]).accepted().text(), "ACTT\n");
+    let fasta = run(&["decode", "-r", &reference, "--fasta", &blocks]).accepted();
+    assert_eq!(fasta.text(), ">0.0\nACTT\n");
+    let validated = run(&["validate", "-r", &reference, &blocks]).accepted();
+    let counts = "blocks 1, reads 1, letters 4, entries 1, differences 1";
+    assert_eq!(validated.text(), format!("{blocks}: accepted, {counts}\n"));
+    let table = run(&["blocks", &blocks]).accepted();
+    let rows: Vec<Vec<&str>> =
+        table.text().lines().map(|line| line.split_whitespace().collect()).collect();
+    assert_eq!(
+        rows[0].join(" "),
+        "index offset length b_id reads version flags dna names qualN qual size N m1 m2 m3"
+    );
+    assert_eq!(rows[1].join(" "), "0 0 132 7 1 20505 0x1 10 0 0 0 0 1 0 0 0");
+    for ran in [listed, fasta, validated, table] {
+        assert_eq!(ran.stderr, "");
+    }
+}
+
+#[test]
+fn the_empty_file() {
+    let folder = Folder::new("empty");
+    let reference = folder.write("ref", small_reference());
+    let blocks = folder.write("none.ora", b"");
+    assert_eq!(run(&["list", "-r", &reference, &blocks]).accepted().text(), "end blocks 0\n");
+    assert_eq!(run(&["decode", "-r", &reference, &blocks]).accepted().text(), "");
+    let validated = run(&["validate", "-r", &reference, &blocks]).accepted();
+    assert!(validated.text().ends_with(
+        ": accepted, blocks 0, reads 0, letters 0, entries 0, differences 0\n"
+    ));
+    assert_eq!(run(&["blocks", &blocks]).accepted().text().lines().count(), 1);
+    // The empty file is refused with its reference.
+    let wrong = folder.write("wrong", reference_file(13, &[0x1B, 0x1B, 0xE4]));
+    let listed = run(&["list", "-r", &wrong, &blocks]).failed(1, "wrong: refused 1: the reference");
+    assert_eq!(listed.text(), "refused 1 0 0\n");
+    let validated = run(&["validate", "-r", &wrong, &blocks]);
+    assert_eq!((validated.status, &validated.stderr[..]), (Some(1), ""));
+    assert!(validated.text().contains(": refused 1, block 0, read 0, offset 0: the reference"));
+}
+
+#[test]
+fn files_of_generated_blocks() {
+    let folder = Folder::new("generated");
+    for seed in 0..12 {
+        let generated = Generated::new(seed, 25);
+        let reference = folder.write("ref", generated.reference_file());
+        let (file, plans) = (generated.file(), &generated.plans);
+        let blocks = folder.write("x.ora", &file);
+        for threads in ["1", "2", "5"] {
+            let with = |words: &[&str]| {
+                run(&[words, &["--threads", threads, "-r", &reference, &blocks]].concat()).accepted()
+            };
+            let lines = generated.lines(plans.len());
+            assert_eq!(with(&["decode"]).text(), lines);
+            assert_eq!(with(&["list"]).text(), listing(&generated.reference_file(), &file));
+            let fasta = with(&["decode", "--fasta"]);
+            let letters: Vec<&str> =
+                fasta.text().lines().filter(|line| !line.starts_with('>')).collect();
+            assert_eq!(letters, lines.lines().collect::<Vec<_>>());
+            let names: Vec<&str> =
+                fasta.text().lines().filter_map(|line| line.strip_prefix('>')).collect();
+            let expected: Vec<String> = (0..).zip(plans)
+                .flat_map(|(block, plan)| {
+                    (0..plan.expected.ends.len()).map(move |read| format!("{block}.{read}"))
+                })
+                .collect();
+            assert_eq!(names, expected);
+            let judged = second::validate(300, &generated.reference.bytes, &file);
+            let second::Outcome { blocks, reads, letters, entries, differences, .. } = judged;
+            assert!(with(&["validate"]).text().ends_with(&format!(
+                ": accepted, blocks {blocks}, reads {reads}, letters {letters}, \
+                 entries {entries}, differences {differences}\n"
+            )));
+        }
+    }
+}
+
+#[test]
+fn the_table_of_generated_blocks() {
+    let folder = Folder::new("table");
+    let generated = Generated::new(5, 40);
+    let blocks = folder.write("x.ora", generated.file());
+    let table = run(&["blocks", &blocks]).accepted();
+    let mut rows = table.text().lines().skip(1);
+    let mut offset = 0;
+    for (index, plan) in generated.plans.iter().enumerate() {
+        let length = plan.block().len();
+        let mut cells = vec![index.to_string(), offset.to_string(), length.to_string()];
+        cells.extend([plan.b_id.to_string(), plan.n_reads.to_string(), plan.version.to_string()]);
+        cells.push(format!("{:#x}", plan.flags));
+        cells.extend(plan.sections().map(|section| section.len().to_string()));
+        let row = rows.next().unwrap();
+        assert_eq!(row.split_whitespace().collect::<Vec<_>>(), cells);
+        offset += length;
+    }
+    assert_eq!(rows.next(), None);
+}
+
+/// Decodes, lists and validates a file in which one block is refused.
+#[track_caller]
+fn check_refused(folder: &Folder, generated: &Generated, file: &[u8], index: usize, offset: usize) {
+    let reference = folder.write("ref", generated.reference_file());
+    let blocks = folder.write("x.ora", file);
+    let judged = second::validate(generated.reference.bases, &generated.reference.bytes, file);
+    let (number, read) = (judged.number, judged.read);
+    assert_eq!(judged.block, index as u64);
+    let place = format!("refused {number}, block {index}, read {read}, offset {offset}: ");
+    for threads in ["1", "4"] {
+        let with = |command: &str| {
+            run(&[command, "--threads", threads, "-r", &reference, &blocks])
+        };
+        let decoded = with("decode").failed(1, &place);
+        assert_eq!(decoded.text(), generated.lines(index));
+        let listed = with("list").failed(1, &place);
+        assert_eq!(listed.text(), listing(&generated.reference_file(), file));
+        assert!(listed.text().ends_with(&format!("refused {number} {index} {read}\n")));
+        let validated = with("validate");
+        assert_eq!((validated.status, &validated.stderr[..]), (Some(1), ""));
+        assert!(validated.text().starts_with(&format!("{blocks}: {place}")));
+    }
+}
+
+#[test]
+fn a_refused_block_in_the_middle() {
+    let folder = Folder::new("middle");
+    let mut met = std::collections::BTreeSet::new();
+    for number in (2..=21).filter(|&number| number != 2 && number != 8) {
+        let mut rng = Prng::new(number as u64);
+        let mut generated = Generated::new(number as u64, 9);
+        // The block in the middle has what it takes to be spoiled.
+        let spoiled = (0..200).find_map(|seed| {
+            let mut plan = Generated::new(1000 + seed, 1).plans.remove(0);
+            plan.reference = generated.reference.clone();
+            let fault = spoil(&mut plan, number, &mut rng)?;
+            let (bases, bytes) = (generated.reference.bases, &generated.reference.bytes);
+            let judged = second::validate_block(bases, bytes, &plan.block());
+            (fault.number == number && judged.number == number).then_some(plan)
+        });
+        let Some(plan) = spoiled else {
+            continue;
+        };
+        generated.plans[5] = plan;
+        met.insert(number);
+        let offset = generated.plans[..5].iter().map(|plan| plan.block().len()).sum();
+        check_refused(&folder, &generated, &generated.file(), 5, offset);
+    }
+    assert!(met.len() >= 16, "{met:?}");
+}
+
+#[test]
+fn a_truncated_file() {
+    let folder = Folder::new("truncated");
+    let generated = Generated::new(77, 4);
+    let (file, blocks) = (generated.file(), generated.blocks());
+    let last = file.len() - blocks[3].len();
+    // Inside the last header (2), and inside its sections (8).
+    for cut in [last + 1, last + 120, last + 121, file.len() - 1] {
+        check_refused(&folder, &generated, &file[..cut], 3, last);
+    }
+    // Right at the end of a block it is a shorter file, and accepted.
+    let reference = folder.write("ref", generated.reference_file());
+    let blocks = folder.write("x.ora", &file[..last]);
+    let decoded = run(&["decode", "-r", &reference, &blocks]).accepted();
+    assert_eq!(decoded.text(), generated.lines(3));
+}
+
+#[test]
+fn damaged_files() {
+    let folder = Folder::new("damaged");
+    let mut rng = Prng::new(4);
+    let (mut refused, mut accepted) = (0, 0);
+    for seed in 0..60 {
+        let generated = Generated::new(100 + seed, 5);
+        let mut blocks = generated.blocks();
+        let spoiled = rng.below(5) as usize;
+        damage(&mut blocks[spoiled], &mut rng);
+        let file = blocks.concat();
+        let judged = second::validate(300, &generated.reference.bytes, &file);
+        if judged.number == 0 {
+            accepted += 1;
+            let reference = folder.write("ref", generated.reference_file());
+            let blocks = folder.write("x.ora", &file);
+            let listed = run(&["list", "-r", &reference, &blocks]).accepted();
+            assert_eq!(listed.text(), listing(&generated.reference_file(), &file));
+            continue;
+        }
+        refused += 1;
+        // A length that is changed moves all that follows.
+        if judged.block == spoiled as u64 {
+            let offset = blocks[..spoiled].iter().map(Vec::len).sum();
+            check_refused(&folder, &generated, &file, spoiled, offset);
+        }
+    }
+    assert!(refused > 20 && accepted > 2, "{refused} {accepted}");
+}
+
+#[test]
+fn a_header_that_is_refused_ends_the_table() {
+    let folder = Folder::new("table_refused");
+    let generated = Generated::new(9, 3);
+    let blocks = generated.blocks();
+    let file = [&blocks[0][..], &blocks[1], b"no block"].concat();
+    let offset = blocks[0].len() + blocks[1].len();
+    let path = folder.write("x.ora", file);
+    let place = format!("x.ora: refused 2, block 2, read 0, offset {offset}: the input has fewer");
+    let table = run(&["blocks", &path]).failed(1, &place);
+    assert_eq!(table.text().lines().count(), 3);
+}
+
+#[test]
+fn a_reference_that_is_too_short() {
+    let folder = Folder::new("short_reference");
+    let blocks = folder.write("one.ora", sample_block());
+    // Not even the number of bases, or fewer bytes than it says, or more.
+    let many = (1u64 << 32).to_le_bytes().to_vec();
+    for wrong in [vec![], vec![12; 7], reference_file(12, &[0x1B, 0x1B]), reference_file(8, &[0; 3]), many] {
+        let reference = folder.write("ref", wrong);
+        let listed = run(&["list", "-r", &reference, &blocks]).failed(1, "ref: refused 1: the ref");
+        assert_eq!(listed.text(), "refused 1 0 0\n");
+        let decoded = run(&["decode", "-r", &reference, &blocks]).failed(1, "ref: refused 1: the ref");
+        assert_eq!(decoded.text(), "");
+        assert_eq!(run(&["validate", "-r", &reference, &blocks]).status, Some(1));
+    }
+    // Right, but the read's stretch is not inside.
+    let reference = folder.write("ref", reference_file(3, &[0x1B]));
+    let listed = run(&["list", "-r", &reference, &blocks]).failed(1, "refused 15, block 0, read 0");
+    assert_eq!(listed.text(), "refused 15 0 0\n");
+}
+
+#[test]
+fn several_files_are_all_judged() {
+    let folder = Folder::new("several");
+    let reference = folder.write("ref", small_reference());
+    let good = folder.write("good.ora", [sample_block(), sample_block()].concat());
+    let mut spoiled = sample_block();
+    spoiled[121 + 9] = 0x13;
+    let bad = folder.write("bad \"1\".ora", [sample_block(), spoiled].concat());
+    let missing = folder.path("missing.ora");
+
+    let all = run(&["validate", "-r", &reference, &good, &bad, &good]);
+    assert_eq!((all.status, &all.stderr[..]), (Some(1), ""));
+    let lines: Vec<&str> = all.text().lines().collect();
+    assert_eq!(lines.len(), 3);
+    assert_eq!(lines[0], lines[2]);
+    let why = "an entry after the first has the offset 0, or an entry lands outside the aligned part";
+    assert_eq!(lines[1], format!("{bad}: refused 17, block 1, read 0, offset 132: {why}"));
+
+    // One that cannot be read is named, and the others are judged.
+    let all = run(&["validate", "-r", &reference, &missing, &bad, &good])
+        .failed(2, "missing.ora: No such file");
+    assert_eq!(all.text().lines().collect::<Vec<_>>(), [lines[1], lines[0]]);
+
+    let json = run(&["validate", "--json", "-r", &reference, &good, &bad]);
+    assert_eq!(json.status, Some(1));
+    let quoted = |path: &str| path.replace('"', "\\\"");
+    assert_eq!(
+        json.text(),
+        format!(
+            "{{\"file\":\"{}\",\"accepted\":true,\"blocks\":2,\"reads\":2,\"letters\":8,\"entries\":2,\
+             \"differences\":2,\"refusal\":null}}\n{{\"file\":\"{}\",\"accepted\":false,\"blocks\":0,\
+             \"reads\":0,\"letters\":0,\"entries\":0,\"differences\":0,\"refusal\":{{\"number\":17,\
+             \"name\":\"EntryOffsetInvalid\",\"reason\":\"{why}\",\"block\":1,\"read\":0,\
+             \"offset\":132}}}}\n",
+            quoted(&good),
+            quoted(&bad)
+        )
+    );
+}
+
+#[test]
+fn blocks_from_standard_input_and_pipes() {
+    let folder = Folder::new("standard_input");
+    let generated = Generated::new(31, 12);
+    let reference = folder.write("ref", generated.reference_file());
+    let (file, lines) = (generated.file(), generated.lines(12));
+    let path = folder.write("x.ora", &file);
+    assert_eq!(run_with(&["decode", "-r", &reference, "-"], &file).accepted().text(), lines);
+    let validated = run_with(&["validate", "-r", &reference, "-"], &file).accepted();
+    assert!(validated.text().starts_with("standard input: accepted, blocks 12,"));
+    assert_eq!(run_with(&["blocks", "-"], &file).accepted().text().lines().count(), 13);
+    assert_eq!(run_with(&["decode", "-r", &reference, "-"], b"").accepted().text(), "");
+    let piped = shell("cat \"$1\" | \"$0\" decode -r \"$2\" /dev/stdin", &[&path, &reference]);
+    assert_eq!(piped.accepted().text(), lines);
+    run_with(&["decode", "-r", "-", &path], &file).failed(2, "the reference is read from a file");
+}
+
+#[test]
+fn decoding_to_a_file() {
+    let folder = Folder::new("decode_output");
+    let generated = Generated::new(12, 6);
+    let reference = folder.write("ref", generated.reference_file());
+    let blocks = folder.write("x.ora", generated.file());
+    let output = folder.path("out.txt");
+    let ran = run(&["decode", "-r", &reference, &blocks, "-o", &output]).accepted();
+    assert_eq!((ran.text(), &ran.stderr[..]), ("", ""));
+    assert_eq!(folder.read("out.txt"), generated.lines(6).as_bytes());
+
+    // A refused block leaves the file as it was.
+    let cut = folder.write("cut.ora", &generated.file()[..generated.file().len() - 1]);
+    run(&["decode", "-r", &reference, &cut, "-o", &output]).failed(1, "refused");
+    assert_eq!(folder.read("out.txt"), generated.lines(6).as_bytes());
+    let new = folder.path("new.txt");
+    run(&["decode", "-r", &reference, &cut, "-o", &new]).failed(1, "refused");
+    assert_eq!(folder.names(), ["cut.ora", "out.txt", "ref", "x.ora"]);
+
+    // What is read is not replaced.
+    for input in [&blocks, &reference] {
+        run(&["decode", "-r", &reference, &blocks, "-o", input])
+            .failed(2, "it is one of the files that are read");
+    }
+    assert_eq!(folder.read("x.ora"), generated.file());
+}
