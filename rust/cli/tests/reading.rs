@@ -43,9 +43,9 @@ fn the_empty_file() {
     assert_eq!(run(&["list", "-r", &reference, &blocks]).accepted().text(), "end blocks 0\n");
     assert_eq!(run(&["decode", "-r", &reference, &blocks]).accepted().text(), "");
     let validated = run(&["validate", "-r", &reference, &blocks]).accepted();
-    assert!(validated.text().ends_with(
-        ": accepted, blocks 0, reads 0, letters 0, entries 0, differences 0\n"
-    ));
+    assert!(validated
+        .text()
+        .ends_with(": accepted, blocks 0, reads 0, letters 0, entries 0, differences 0\n"));
     assert_eq!(run(&["blocks", &blocks]).accepted().text().lines().count(), 1);
     // The empty file is refused with its reference.
     let wrong = folder.write("wrong", reference_file(13, &[0x1B, 0x1B, 0xE4]));
@@ -66,7 +66,8 @@ fn files_of_generated_blocks() {
         let blocks = folder.write("x.ora", &file);
         for threads in ["1", "2", "5"] {
             let with = |words: &[&str]| {
-                run(&[words, &["--threads", threads, "-r", &reference, &blocks]].concat()).accepted()
+                run(&[words, &["--threads", threads, "-r", &reference, &blocks]].concat())
+                    .accepted()
             };
             let lines = generated.lines(plans.len());
             assert_eq!(with(&["decode"]).text(), lines);
@@ -77,7 +78,8 @@ fn files_of_generated_blocks() {
             assert_eq!(letters, lines.lines().collect::<Vec<_>>());
             let names: Vec<&str> =
                 fasta.text().lines().filter_map(|line| line.strip_prefix('>')).collect();
-            let expected: Vec<String> = (0..).zip(plans)
+            let expected: Vec<String> = (0..)
+                .zip(plans)
                 .flat_map(|(block, plan)| {
                     (0..plan.expected.ends.len()).map(move |read| format!("{block}.{read}"))
                 })
@@ -124,9 +126,7 @@ fn check_refused(folder: &Folder, generated: &Generated, file: &[u8], index: usi
     assert_eq!(judged.block, index as u64);
     let place = format!("refused {number}, block {index}, read {read}, offset {offset}: ");
     for threads in ["1", "4"] {
-        let with = |command: &str| {
-            run(&[command, "--threads", threads, "-r", &reference, &blocks])
-        };
+        let with = |command: &str| run(&[command, "--threads", threads, "-r", &reference, &blocks]);
         let decoded = with("decode").failed(1, &place);
         assert_eq!(decoded.text(), generated.lines(index));
         let listed = with("list").failed(1, &place);
@@ -231,11 +231,14 @@ fn a_reference_that_is_too_short() {
     let blocks = folder.write("one.ora", sample_block());
     // Not even the number of bases, or fewer bytes than it says, or more.
     let many = (1u64 << 32).to_le_bytes().to_vec();
-    for wrong in [vec![], vec![12; 7], reference_file(12, &[0x1B, 0x1B]), reference_file(8, &[0; 3]), many] {
+    for wrong in
+        [vec![], vec![12; 7], reference_file(12, &[0x1B, 0x1B]), reference_file(8, &[0; 3]), many]
+    {
         let reference = folder.write("ref", wrong);
         let listed = run(&["list", "-r", &reference, &blocks]).failed(1, "ref: refused 1: the ref");
         assert_eq!(listed.text(), "refused 1 0 0\n");
-        let decoded = run(&["decode", "-r", &reference, &blocks]).failed(1, "ref: refused 1: the ref");
+        let decoded =
+            run(&["decode", "-r", &reference, &blocks]).failed(1, "ref: refused 1: the ref");
         assert_eq!(decoded.text(), "");
         assert_eq!(run(&["validate", "-r", &reference, &blocks]).status, Some(1));
     }
@@ -260,7 +263,8 @@ fn several_files_are_all_judged() {
     let lines: Vec<&str> = all.text().lines().collect();
     assert_eq!(lines.len(), 3);
     assert_eq!(lines[0], lines[2]);
-    let why = "an entry after the first has the offset 0, or an entry lands outside the aligned part";
+    let why =
+        "an entry after the first has the offset 0, or an entry lands outside the aligned part";
     assert_eq!(lines[1], format!("{bad}: refused 17, block 1, read 0, offset 132: {why}"));
 
     // One that cannot be read is named, and the others are judged.

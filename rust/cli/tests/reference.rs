@@ -14,9 +14,9 @@ fn a_small_genome() {
     let output = folder.path("g.ref");
     let ran = run(&["reference", &genome, "-o", &output]).accepted();
     assert_eq!(ran.text(), "");
-    assert!(ran.stderr.ends_with(
-        "g.fa: 2 sequences, 12 bases, 0 of them stored as A for another letter\n"
-    ));
+    assert!(ran
+        .stderr
+        .ends_with("g.fa: 2 sequences, 12 bases, 0 of them stored as A for another letter\n"));
     assert_eq!(folder.read("g.ref"), small_reference());
     assert_eq!(folder.read("g.ref.fai"), b"one\t7\t11\t5\t6\ntwo\t5\t25\t5\t6\n");
     assert_eq!(folder.names(), ["g.fa", "g.ref", "g.ref.fai"]);
@@ -65,7 +65,8 @@ fn long_lines_and_many_sequences() {
     }
     let mut packed = Vec::new();
     for four in letters.chunks(4) {
-        let codes = four.iter().map(|letter| b"ACGT".iter().position(|l| l == letter).unwrap() as u8);
+        let codes =
+            four.iter().map(|letter| b"ACGT".iter().position(|l| l == letter).unwrap() as u8);
         let byte = codes.fold(0, |byte, code| byte << 2 | code);
         packed.push(byte << (2 * (4 - four.len())));
     }
@@ -107,7 +108,10 @@ fn files_that_stand_there() {
     // A failure leaves what was there.
     let wrong = folder.write("wrong.fa", ">one\nACGT\n>two\n \n");
     run(&["reference", &wrong, "-o", &output]).failed(2, "wrong.fa, line 4: the byte 20");
-    assert_eq!((folder.read("g.ref"), folder.read("g.ref.fai")), (b"old".to_vec(), b"old".to_vec()));
+    assert_eq!(
+        (folder.read("g.ref"), folder.read("g.ref.fai")),
+        (b"old".to_vec(), b"old".to_vec())
+    );
     run(&["reference", &genome, "-o", &output]).accepted();
     assert_eq!(folder.read("g.ref"), small_reference());
     assert_eq!(folder.read("g.ref.fai"), b"one\t12\t5\t12\t13\n");
@@ -130,13 +134,15 @@ fn a_reference_is_a_file() {
     let folder = Folder::new("reference_file");
     let genome = folder.write("g.fa", ">one\nACGT\n");
     for output in ["-", "/dev/null", "/dev/full"] {
-        let ran = run(&["reference", &genome, "-o", output]).failed(2, "is written to a file alone");
+        let ran =
+            run(&["reference", &genome, "-o", output]).failed(2, "is written to a file alone");
         assert_eq!(ran.text(), "");
     }
     let missing = folder.path("missing/g.ref");
     run(&["reference", &genome, "-o", &missing]).failed(2, "missing/g.ref: No such file");
     let missing = folder.path("missing.fa");
-    run(&["reference", &missing, "-o", &folder.path("g.ref")]).failed(2, "missing.fa: No such file");
+    run(&["reference", &missing, "-o", &folder.path("g.ref")])
+        .failed(2, "missing.fa: No such file");
     assert_eq!(folder.names(), ["g.fa"]);
 }
 

@@ -13,7 +13,8 @@ pub fn run(arguments: &DecodeArguments) -> Result<Status, Failure> {
     let reference = ReferenceFile::open(&arguments.reference.path)?;
     let reference = reference.reference()?;
     let file = InputFile::open(&arguments.blocks)?;
-    let mut output = Output::create(&arguments.output, &[&arguments.reference.path, &arguments.blocks])?;
+    let mut output =
+        Output::create(&arguments.output, &[&arguments.reference.path, &arguments.blocks])?;
     let workers = Workers::new(arguments.threads.number)?;
     let print = |block: &FileBlock, decoded: &Decoded, text: &mut Vec<u8>| {
         if arguments.fasta {

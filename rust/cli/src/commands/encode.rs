@@ -28,7 +28,8 @@ pub fn run(arguments: &EncodeArguments) -> Result<Status, Failure> {
     let reference = file.reference()?;
     let sequences = Sequences::open(&arguments.reference.path, reference.bases())?;
     let text = Text::open(&arguments.reads, UNPACK)?;
-    let mut output = Output::create(&arguments.output, &[&arguments.reference.path, &arguments.reads])?;
+    let mut output =
+        Output::create(&arguments.output, &[&arguments.reference.path, &arguments.reads])?;
     let name = text.name.clone();
     let summary = encode(arguments, &reference, &sequences, text, &mut output)?;
     output.finish()?;
