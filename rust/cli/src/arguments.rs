@@ -68,7 +68,7 @@ pub struct EncodeArguments {
     #[arg(value_name = "READS.sam", default_value = "-")]
     pub reads: PathBuf,
     /// Reads in a block, 1 to 50000
-    #[arg(long, value_name = "NUMBER", default_value_t = 50_000)]
+    #[arg(long, value_name = "NUMBER", default_value_t = 10_000)]
     #[arg(value_parser = clap::value_parser!(u32).range(1..=50_000))]
     pub reads_per_block: u32,
     /// The b_id of the first block; it counts up from there

@@ -9,7 +9,7 @@ use std::path::Path;
 use std::sync::Arc;
 
 /// After so many bytes of blocks the map is made anew, so that what is done with can be let go.
-const WINDOW: usize = 1 << 24;
+const WINDOW: usize = 1 << 22;
 
 /// A walk over the blocks of a file.
 pub struct Walk<'a> {
