@@ -96,6 +96,34 @@ fn files_of_generated_blocks() {
 }
 
 #[test]
+fn a_file_of_many_megabytes() {
+    let folder = Folder::new("megabytes");
+    let mut generated = Generated::new(21, 25);
+    for plan in &mut generated.plans {
+        plan.carried[0] = vec![7; 20_000];
+    }
+    // A block of more than a window, between many small ones.
+    generated.plans[12].carried[0] = vec![7; 5 << 20];
+    let reference = folder.write("ref", generated.reference_file());
+    let times = 12;
+    let small: Vec<u8> = [&generated.blocks()[..12], &generated.blocks()[13..]].concat().concat();
+    let file = [small.repeat(times), generated.file(), small.repeat(times)].concat();
+    assert!(file.len() > 3 * (4 << 20));
+    let small = generated.lines(12) + &generated.lines(25)[generated.lines(13).len()..];
+    let lines = small.repeat(times) + &generated.lines(25) + &small.repeat(times);
+    let path = folder.write("x.ora", [&file[..], b"no block"].concat());
+    for threads in ["1", "2", "5"] {
+        let with = |command: &str| run(&[command, "--threads", threads, "-r", &reference, &path]);
+        let (index, offset) = (25 + 48 * times, file.len());
+        let place = format!("refused 2, block {index}, read 0, offset {offset}: ");
+        let decoded = with("decode").failed(1, &place);
+        assert!(decoded.text() == lines);
+        assert!(with("validate").text().contains(&place));
+    }
+    assert_eq!(run(&["blocks", &path]).text().lines().count(), 1 + 25 + 48 * times);
+}
+
+#[test]
 fn the_table_of_generated_blocks() {
     let folder = Folder::new("table");
     let generated = Generated::new(5, 40);
