@@ -1,9 +1,15 @@
 #!/bin/sh
-# cargo.sh WORDS...: runs cargo with these words on the command line tool. Before, it sees that the proved library is
-# there and is made of the crates as they are now, and where cargo finds the crates that the tool uses: in Debian's
-# packages where they are installed, in the usual registry elsewhere.
+# cargo.sh COMMAND WORDS...: runs this command of cargo's on the command line tool. Before, it sees that the proved
+# library is there and is made of the crates as they are now, and where cargo finds the crates that the tool uses: in
+# Debian's packages where they are installed, in the usual registry elsewhere.
 # Exit status: cargo's; 2 where something is missing, which is named.
 set -u
+if [ $# -eq 0 ]; then
+  echo "usage: cargo.sh COMMAND WORDS..." >&2
+  exit 2
+fi
+command=$1
+shift
 root=$(CDPATH='' cd -- "$(dirname -- "$0")/../.." && pwd) || exit 2
 cd -- "$root" || exit 2
 library=target/staticlib/libcapi.a
@@ -31,12 +37,13 @@ done
 export CARGO_TARGET_DIR="${CARGO_TARGET_DIR:-$root/target/cargo}"
 manifest=rust/cli/Cargo.toml
 if [ -n "$missing" ]; then
-  echo "cli: these packages of Debian's are not installed:$missing" >&2
-  echo "cli: apt-get install$missing" >&2
-  echo "cli: their crates are looked for in the usual registry" >&2
-  cargo fetch --quiet --manifest-path "$manifest" \
-    || { echo "cli: the crates are neither installed nor in reach" >&2; exit 2; }
-  exec cargo "$@" --manifest-path "$manifest"
+  echo "cli: packages of Debian's are missing, so that crates are looked for in the usual registry" >&2
+  if ! cargo fetch --quiet --manifest-path "$manifest"; then
+    echo "cli: the crates are not in reach, and these packages are missing:$missing" >&2
+    echo "cli: apt-get install$missing" >&2
+    exit 2
+  fi
+  exec cargo "$command" --manifest-path "$manifest" "$@"
 fi
 
 # Debian knows no checksum of many crates and says so where it should stand, which no lock file for others can hold.
@@ -47,5 +54,5 @@ for crate in "$packages"/*/; do
   mkdir -p "$crates/$name" && ln -s "$crate"* "$crates/$name/" \
     && echo '{"files":{}}' > "$crates/$name/.cargo-checksum.json" || exit 2
 done
-exec cargo "$@" --offline --manifest-path "$manifest" \
-  --config 'source.crates-io.replace-with="debian"' --config "source.debian.directory=\"$crates\""
+exec cargo "$command" --offline --manifest-path "$manifest" \
+  --config 'source.crates-io.replace-with="debian"' --config "source.debian.directory=\"$crates\"" "$@"

@@ -1,7 +1,6 @@
 //! The arguments, and what `--help` says.
 
 use clap::{Args, Parser, Subcommand};
-use std::num::NonZeroUsize;
 use std::path::PathBuf;
 
 /// Reads and writes files of opened ORA blocks: DNA reads kept as places on a reference with lists
@@ -208,7 +207,8 @@ pub struct ReferenceOption {
 
 #[derive(Args)]
 pub struct ThreadsOption {
-    /// How many threads work on blocks [default: one for each core]
+    /// How many threads work on blocks, 1 to 1024 [default: one for each core]
     #[arg(long = "threads", value_name = "NUMBER")]
-    pub number: Option<NonZeroUsize>,
+    #[arg(value_parser = clap::value_parser!(u16).range(1..=1024))]
+    pub number: Option<u16>,
 }

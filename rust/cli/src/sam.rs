@@ -6,7 +6,7 @@ use crate::input::Text;
 use crate::letters::{self, Changed};
 use crate::sequences::{number, Place, Sequences};
 use ora::{Candidate, Reads, Strand, MAX_READ_LENGTH};
-use std::io::BufRead;
+use std::io::{BufRead, Read};
 
 /// The read's SEQ is that of the other strand.
 const REVERSE: u64 = 0x10;
@@ -16,6 +16,9 @@ const SUPPLEMENTARY: u64 = 0x800;
 
 /// A block gets no further read once it has so many letters.
 const LETTERS_OF_BLOCK: usize = 1 << 24;
+
+/// What has more bytes without a line end is no SAM text, and is not gathered further.
+const LONGEST_LINE: u64 = 1 << 28;
 
 /// What became of the records.
 #[derive(Clone, Copy, Debug, Default, PartialEq, Eq)]
@@ -138,13 +141,17 @@ impl<'a> SamReader<'a> {
         let mut batch = Batch::default();
         while batch.records.len() < self.reads_of_block && batch.letters < LETTERS_OF_BLOCK {
             self.line.clear();
-            let read = self.text.source.read_until(b'\n', &mut self.line);
-            let read = read.map_err(|error| Failure::reading(&self.text.name, error))?;
+            let mut source = self.text.source.by_ref().take(LONGEST_LINE);
+            let read = source.read_until(b'\n', &mut self.line);
+            let read = read.map_err(|error| Failure::reading(&self.text.name, error))? as u64;
             if read == 0 {
                 break;
             }
-            batch.read += read as u64;
+            batch.read += read;
             self.line_number += 1;
+            if read == LONGEST_LINE {
+                return Err(self.wrong("the line does not end: this is no SAM text"));
+            }
             trim_line_end(&mut self.line);
             if !self.line.is_empty() {
                 self.read_line(&mut batch)?;

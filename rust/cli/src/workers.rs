@@ -24,10 +24,10 @@ pub struct Workers {
 
 impl Workers {
     /// So many threads, or one for each core.
-    pub fn new(threads: Option<NonZeroUsize>) -> Result<Workers, Failure> {
-        let cores = std::thread::available_parallelism();
-        let threads = threads.or(cores.ok()).map_or(1, NonZeroUsize::get);
-        if threads == 1 {
+    pub fn new(threads: Option<u16>) -> Result<Workers, Failure> {
+        let cores = || std::thread::available_parallelism().map_or(1, NonZeroUsize::get);
+        let threads = threads.map_or_else(cores, usize::from);
+        if threads <= 1 {
             return Ok(Workers { pool: None });
         }
         match ThreadPoolBuilder::new().num_threads(threads).build() {
@@ -141,12 +141,12 @@ mod tests {
 
     /// Squares 0 to 99 and fails where told.
     fn squares(
-        threads: usize,
+        threads: u16,
         bytes: u64,
         fails_at: u64,
         ends_at: u64,
     ) -> (Vec<u64>, Option<String>) {
-        let workers = Workers::new(NonZeroUsize::new(threads)).unwrap();
+        let workers = Workers::new(Some(threads)).unwrap();
         let (mut given, mut taken) = (0, Vec::new());
         let next = || {
             given += 1;

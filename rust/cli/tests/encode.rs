@@ -438,6 +438,10 @@ fn what_is_no_sam() {
     let named = "@ab\t4\t*\t0\t0\t*\t*\t0\t0\tACC\t*";
     let (ran, decoded) = encode(&simulated, &[right, named, "@CO\tlate", right], &[]);
     assert_eq!((counted(&ran, "reads"), &decoded[..]), (3, "ACC\nACC\nACC\n"));
+    // A line without an end.
+    let endless = "head -c 300000000 /dev/zero | \"$0\" encode -r \"$1\" -o \"$2\"";
+    shell(endless, &[&simulated.reference, &simulated.folder.path("x.ora")])
+        .failed(2, "standard input, line 1: the line does not end: this is no SAM text");
     // Compressed.
     for start in [&b"\x1F\x8B\x08\x04"[..], b"CRAM\x03\x00"] {
         let sam = simulated.folder.write("x.bam", start);

@@ -34,6 +34,7 @@ fn wrong_arguments() {
     wrong(&["decode", "--nothing", "-r", "x", "y"], "'--nothing'");
     wrong(&["nothing"], "'nothing'");
     wrong(&["decode", "-r", "x", "y", "--threads", "0"], "--threads");
+    wrong(&["decode", "-r", "x", "y", "--threads", "1025"], "--threads");
     wrong(&["decode", "-r", "x", "y", "--threads", "many"], "--threads");
     wrong(&["blocks", "--threads", "1", "y"], "--threads");
     for number in ["0", "50001", "-1", "x"] {
