@@ -79,7 +79,11 @@ simulate_reads() {
 compare_letters() {
   samtools view -F 0x900 "$1" | cut -f 1,2 | paste - "$2" | awk -F '\t' '
     FILENAME != "-" {
-      if (FNR % 4 == 1) { name = substr($1, 2); sub(/\/[12]$/, "", name); name = name (FILENAME == "r1.fq" ? 1 : 2) }
+      if (FNR % 4 == 1) {
+        name = substr($1, 2)
+        sub(/\/[12]$/, "", name)
+        name = name (FILENAME == "r1.fq" ? 1 : 2)
+      }
       if (FNR % 4 == 2) { letters[name] = $1; reads++ }
       next
     }
@@ -90,7 +94,10 @@ compare_letters() {
       records++
     }
     END {
-      if (wrong || records != reads) { print "pipeline: " wrong + 0 " wrong, " records " of " reads > "/dev/stderr"; exit 1 }
+      if (wrong || records != reads) {
+        print "pipeline: " wrong + 0 " wrong, " records + 0 " of " reads > "/dev/stderr"
+        exit 1
+      }
     }' r1.fq r2.fq -
 }
 
@@ -164,10 +171,6 @@ peak() {
   echo "$most"
 }
 
-ratio() {
-  awk -v one="$1" -v other="$2" 'BEGIN { printf "%.2f\n", one / other }'
-}
-
 bench() {
   simulate_genome
   simulate_reads 1000000
@@ -189,21 +192,27 @@ bench() {
 
   echo "| 2,000,000 reads of 150 and 126 letters | |"
   echo "|---|---|"
-  echo "| validate, two threads to one, speed | $(ratio "${best[validate_1]}" "${best[validate_2]}") |"
-  echo "| decode to FASTA, two threads to one, speed | $(ratio "${best[decode_1]}" "${best[decode_2]}") |"
-  echo "| decode, one thread, to samtools fasta with one thread, speed | $(ratio "${best[samtools_1]}" "${best[decode_1]}") |"
-  echo "| decode, two threads, to samtools fasta with two threads, speed | $(ratio "${best[samtools_2]}" "${best[decode_2]}") |"
+  row "validate, speed, two threads to one" "${best[validate_1]}" "${best[validate_2]}"
+  row "decode to FASTA, speed, two threads to one" "${best[decode_1]}" "${best[decode_2]}"
+  row "decode to FASTA, speed, to samtools fasta, one thread each" "${best[samtools_1]}" "${best[decode_1]}"
+  row "decode to FASTA, speed, to samtools fasta, two threads each" "${best[samtools_2]}" "${best[decode_2]}"
+  local way threads words
   for way in validate 'decode --fasta'; do
     for threads in 1 2; do
       words="$frubanto $way --threads $threads -r genome.ref"
-      echo "| ${way% *}, $threads thread(s), peak memory to that of a tenth of the file |" \
-        "$(ratio "$(peak $words all.ora)" "$(peak $words tenth.ora)") |"
+      row "${way% *}, memory, to that of a tenth of the file, threads: $threads" \
+        "$(peak $words all.ora)" "$(peak $words tenth.ora)"
     done
   done
-  for name in "${!best[@]}"; do
-    echo "$name: ${best[$name]} s" >&2
+  for way in "${!best[@]}"; do
+    echo "$way: ${best[$way]} s" >&2
   done
-  echo "peak memory, decode with two threads: $(peak $frubanto decode --fasta --threads 2 -r genome.ref all.ora) KiB" >&2
+  echo "decode_2: $(peak $words all.ora) KiB" >&2
+}
+
+# row WORDS ONE OTHER: a row of a table, with a ratio.
+row() {
+  awk -v words="$1" -v one="$2" -v other="$3" 'BEGIN { printf "| %s | %.2f |\n", words, one / other }'
 }
 
 case "${1:-}" in

@@ -59,6 +59,14 @@ impl Failure {
         }
     }
 
+    /// The same with what can be done about it.
+    pub fn with_remedy(self, remedy: &str) -> Failure {
+        match self {
+            Failure::Unusable(what) => Failure::Unusable(format!("{what}; {remedy}")),
+            other => other,
+        }
+    }
+
     /// A file that is not what it should be, with the line where that shows.
     pub fn at_line(name: &str, line: u64, what: impl fmt::Display) -> Failure {
         Failure::Unusable(format!("{name}, line {line}: {what}"))

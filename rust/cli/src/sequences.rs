@@ -51,12 +51,8 @@ impl Sequences {
         let path = index_path(reference);
         let name = path.display().to_string();
         let text = fs::read(&path).map_err(|error| {
-            let Failure::Unusable(what) = Failure::reading(&name, error) else {
-                return Failure::ClosedPipe;
-            };
-            Failure::Unusable(format!(
-                "{what}; `frubanto reference` writes it beside the reference"
-            ))
+            Failure::reading(&name, error)
+                .with_remedy("`frubanto reference` writes it beside the reference")
         })?;
         let sequences = Sequences::parse(&name, &text)?;
         let total: u64 = sequences.0.values().map(|place| place.bases).sum();
