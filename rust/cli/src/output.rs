@@ -123,11 +123,18 @@ fn is_same(found: &Metadata, path: &Path) -> bool {
     fs::metadata(path).is_ok_and(|other| (found.dev(), found.ino()) == (other.dev(), other.ino()))
 }
 
-/// Creates a file beside the one that it becomes.
+/// Creates a file beside the one that it becomes, under a name that nothing has.
 fn create_beside(last: PathBuf) -> io::Result<(File, Option<Unfinished>)> {
-    let mut name = last.file_name().ok_or(io::ErrorKind::InvalidInput)?.to_os_string();
-    name.push(format!(".unfinished-{}", std::process::id()));
-    let first = last.with_file_name(name);
-    let file = OpenOptions::new().write(true).create_new(true).open(&first)?;
-    Ok((file, Some(Unfinished { first, last })))
+    let name = last.file_name().ok_or(io::ErrorKind::InvalidInput)?;
+    let mut attempt = 0;
+    loop {
+        let mut name = name.to_os_string();
+        name.push(format!(".unfinished-{}-{attempt}", std::process::id()));
+        let first = last.with_file_name(name);
+        match OpenOptions::new().write(true).create_new(true).open(&first) {
+            // One that was killed may have left its file, and had the same number.
+            Err(error) if error.kind() == io::ErrorKind::AlreadyExists => attempt += 1,
+            file => return Ok((file?, Some(Unfinished { first, last }))),
+        }
+    }
 }

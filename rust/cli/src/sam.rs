@@ -161,7 +161,7 @@ impl<'a> SamReader<'a> {
     }
 
     fn read_line(&mut self, batch: &mut Batch) -> Result<(), Failure> {
-        if is_header(&self.line, self.tally.records > 0) {
+        if is_header(&self.line) {
             return self.check_header();
         }
         let line = std::mem::take(&mut self.line);
@@ -288,21 +288,21 @@ fn trim_line_end(line: &mut Vec<u8>) {
     }
 }
 
-/// Whether a line is one of a header: `@`, two letters and a tab. Once there are records it is none
-/// if a FLAG follows: then it is one of a read whose name has this form.
-fn is_header(line: &[u8], records: bool) -> bool {
+/// Whether a line is one of a header: `@`, two letters and a tab. It is a record of a read whose name
+/// has this form if a number, its FLAG, follows, which only a comment (@CO) may have there.
+fn is_header(line: &[u8]) -> bool {
     let [b'@', first, second, rest @ ..] = line else {
         return false;
     };
-    let field = match rest {
+    let follows = match rest {
         [] => true,
         [b'\t', rest @ ..] => {
             let field = rest.split(|&byte| byte == b'\t').next().unwrap_or_default();
-            !records || number(field).is_none()
+            [*first, *second] == *b"CO" || number(field).is_none()
         }
         _ => false,
     };
-    first.is_ascii_alphabetic() && second.is_ascii_alphabetic() && field
+    first.is_ascii_alphabetic() && second.is_ascii_alphabetic() && follows
 }
 
 /// The eleven fields that every record has; the last is given with what follows it.
@@ -396,13 +396,11 @@ mod tests {
     #[test]
     fn header_lines() {
         for line in ["@HD\tVN:1.6", "@SQ\tSN:a\tLN:5", "@CO", "@CO\tfree text", "@CO\t7"] {
-            assert!(is_header(line.as_bytes(), false), "{line}");
+            assert!(is_header(line.as_bytes()), "{line}");
         }
-        assert!(is_header(b"@SQ\tSN:a\tLN:5", true));
-        for line in ["@", "@read1\t4\t*", "@12\t4\t*", "read\t4\t*", ""] {
-            assert!(!is_header(line.as_bytes(), false), "{line}");
+        for line in ["@", "@AB\t4\t*\t0", "@read1\t4\t*", "@12\t4\t*", "read\t4\t*", ""] {
+            assert!(!is_header(line.as_bytes()), "{line}");
         }
-        assert!(!is_header(b"@AB\t4\t*\t0", true));
     }
 
     #[test]

@@ -436,7 +436,7 @@ fn what_is_no_sam() {
     }
     // Names that look like a header.
     let named = "@ab\t4\t*\t0\t0\t*\t*\t0\t0\tACC\t*";
-    let (ran, decoded) = encode(&simulated, &[right, named, "@CO\tlate", right], &[]);
+    let (ran, decoded) = encode(&simulated, &[named, right, "@CO\tlate", named], &[]);
     assert_eq!((counted(&ran, "reads"), &decoded[..]), (3, "ACC\nACC\nACC\n"));
     // A line without an end.
     let endless = "head -c 300000000 /dev/zero | \"$0\" encode -r \"$1\" -o \"$2\"";

@@ -332,6 +332,7 @@ fn blocks_from_standard_input_and_pipes() {
     let piped = shell("cat \"$1\" | \"$0\" decode -r \"$2\" /dev/stdin", &[&path, &reference]);
     assert_eq!(piped.accepted().text(), lines);
     run_with(&["decode", "-r", "-", &path], &file).failed(2, "the reference is read from a file");
+    run_with(&["validate", "-r", &reference, "-", "-"], &file).failed(2, "can be read once");
 }
 
 #[test]

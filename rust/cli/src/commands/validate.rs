@@ -3,7 +3,7 @@
 use super::{Status, ACCEPTED, REFUSED};
 use crate::arguments::ValidateArguments;
 use crate::block_file::{FileBlock, ReferenceFile, Walk};
-use crate::failure::{Failure, Refused};
+use crate::failure::{is_stream, Failure, Refused};
 use crate::input::InputFile;
 use crate::output::Output;
 use crate::progress::Progress;
@@ -11,32 +11,34 @@ use crate::workers::{Job, Workers};
 use ora::{Counts, Reference};
 
 pub fn run(arguments: &ValidateArguments) -> Result<Status, Failure> {
+    if arguments.blocks.iter().filter(|path| is_stream(path)).count() > 1 {
+        return Err(Failure::Unusable("standard input can be read once".to_string()));
+    }
     let reference_file = ReferenceFile::open(&arguments.reference.path)?;
     let workers = Workers::new(arguments.threads.number)?;
     let mut output = Output::standard()?;
     let mut status = ACCEPTED;
     for path in &arguments.blocks {
-        let verdict = InputFile::open(path).and_then(|file| {
-            let verdict = match reference_file.reference() {
-                Ok(reference) => judge(&file, &reference, &workers),
-                Err(failure) => Err(failure),
-            };
-            Verdict::of(&file.name, verdict)
+        let judged = InputFile::open(path).and_then(|file| {
+            let reference = reference_file.reference();
+            let judged = reference.and_then(|reference| judge(&file, &reference, &workers));
+            Verdict::of(&file.name, judged)
         });
-        let verdict_status = match verdict {
-            Ok(verdict) => {
-                let text = if arguments.json { verdict.in_json() } else { verdict.in_words() };
-                match output.write(text.as_bytes()).and_then(|()| output.flush()) {
-                    Err(Failure::ClosedPipe) => return Ok(status.max(verdict.status())),
-                    written => written?,
-                }
-                verdict.status()
+        let verdict = match judged {
+            Ok(verdict) => verdict,
+            Err(failure) => {
+                status = status.max(crate::report(failure));
+                continue;
             }
-            Err(failure) => crate::report(failure),
         };
-        status = status.max(verdict_status);
+        status = status.max(verdict.status());
+        let text = if arguments.json { verdict.in_json() } else { verdict.in_words() };
+        match output.write(text.as_bytes()).and_then(|()| output.flush()) {
+            // What is known by now is told by the status.
+            Err(Failure::ClosedPipe) => return Ok(status),
+            written => written?,
+        }
     }
-    output.finish()?;
     Ok(status)
 }
 
