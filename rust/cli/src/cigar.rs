@@ -71,7 +71,7 @@ impl Cigar {
     }
 }
 
-/// The stage of the next operation; None where it cannot stand there, or there is no such operation.
+/// The stage of the next operation; None where it cannot stand there, or there is none such.
 fn next_stage(stage: Stage, operation: u8) -> Option<Stage> {
     let next = match operation {
         b'H' if stage == Stage::HardFront => Stage::HardFront,

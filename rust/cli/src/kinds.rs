@@ -40,9 +40,9 @@ impl Kinds {
         Ok(kinds)
     }
 
-    /// The count of one read's kind. A place that is not used makes no difference to the block; one
-    /// that is used makes a local record with clips, and without them a perfect one, or a global one
-    /// if there are entries.
+    /// The count of one read's kind. A place that is not used makes no difference to the block.
+    /// One that is used makes a local record with clips, and without them a perfect one, or a
+    /// global one if there are entries.
     fn count(&mut self, reference: &Reference, one: &Columns) -> Result<&mut u64, Refusal> {
         let unplaced = Columns { strands: &[0], ..*one };
         if one.strands == unplaced.strands {

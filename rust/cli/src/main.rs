@@ -1,7 +1,7 @@
 //! `frubanto`: reads and writes files of opened ORA blocks of any size. docs/CLI.md is its manual.
 //!
-//! What judges or moves a byte of a block is the proved library, through the crate `ora`. Here files
-//! are opened, cut into blocks where the library says, and what it answers is put into words.
+//! What judges or moves a byte of a block is the proved library, through the crate `ora`. Here
+//! files are opened, cut into blocks where the library says, and its answers are put into words.
 
 #![deny(unsafe_code)]
 

@@ -288,8 +288,8 @@ fn trim_line_end(line: &mut Vec<u8>) {
     }
 }
 
-/// Whether a line is one of a header: `@`, two letters and a tab. It is a record of a read whose name
-/// has this form if a number, its FLAG, follows, which only a comment (@CO) may have there.
+/// Whether a line is one of a header: `@`, two letters and a tab. It is a record of a read whose
+/// name has this form if a number, its FLAG, follows, which only a comment (@CO) may have there.
 fn is_header(line: &[u8]) -> bool {
     let [b'@', first, second, rest @ ..] = line else {
         return false;

@@ -133,6 +133,6 @@ mod tests {
         };
         assert!(wrong(b"a\t5\nb\n").starts_with("x.fai, line 2: this is no name and length"));
         assert!(wrong(b"a\t5\na\t5\n").starts_with("x.fai, line 2: a sequence of this name"));
-        assert!(wrong(b"a\t5\nb\t18446744073709551615\n").starts_with("x.fai, line 2: there is no"));
+        assert!(wrong(b"a\t5\nb\t18446744073709551615\n").starts_with("x.fai, line 2: there is"));
     }
 }

@@ -38,8 +38,8 @@ impl Workers {
         }
     }
 
-    /// Does all work that `next` gives, until it gives none. What comes of it is handed to `take` in
-    /// the order of the jobs. The first failure in that order ends it, so that all before it is
+    /// Does all work that `next` gives, until it gives none. What comes of it is handed to `take`
+    /// in the order of the jobs. The first failure in that order ends it, so that all before it is
     /// taken, with any number of threads.
     pub fn in_order<Work: Send, Done: Send>(
         &self,

@@ -1,7 +1,7 @@
 //! Property: `frubanto encode` makes the blocks that the library makes of the reads as they were
-//! printed and of the mapper's places, and says what became of every record. Catches: a strand that
-//! is not turned back, clips that are not swapped, a place in another sequence, a record that is lost
-//! or stored twice, a block that depends on the number of threads.
+//! printed and of the mapper's places, and says what became of every record. Catches: a strand
+//! that is not turned back, clips that are not swapped, a place in another sequence, a record that
+//! is lost or stored twice, a block that depends on the number of threads.
 
 mod common;
 use common::*;

@@ -1,6 +1,6 @@
 //! Property: decode, list, validate and blocks print what the blocks hold, up to the first that is
 //! refused, and say which that is and why. Catches: blocks out of order, a refused block that is
-//! printed or hides those before it, an index or offset that is off, a status that is not the rule's.
+//! printed or hides those before it, an index or offset that is off, a wrong status.
 
 mod common;
 use common::*;

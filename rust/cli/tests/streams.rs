@@ -1,6 +1,6 @@
-//! Property: whatever stands in the way is said in one line and by the exit status, and no half file
-//! is left. Catches: a panic, a disk that is full and not noticed, noise after a closed pipe, wrong
-//! arguments that are taken.
+//! Property: whatever stands in the way is said in one line and by the exit status, and no half
+//! file is left. Catches: a panic, a disk that is full and not noticed, noise after a closed pipe,
+//! wrong arguments that are taken.
 
 mod common;
 use common::*;

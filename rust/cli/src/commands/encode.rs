@@ -57,7 +57,8 @@ fn encode(
     let reads_per_block = arguments.reads_per_block as usize;
     let mut reader = SamReader::new(text, sequences, reads_per_block, arguments.skip_long);
     let mut b_ids = arguments.b_id..=u64::MAX;
-    let mut summary = Summary::default();
+    let kinds = arguments.kinds.then(Kinds::default);
+    let mut summary = Summary { kinds, ..Summary::default() };
     let next = || {
         let Some(batch) = reader.next_batch()? else {
             return Ok(None);
@@ -121,8 +122,8 @@ impl Summary {
         self.reads += other.reads;
         self.letters += other.letters;
         self.tally.add(&other.tally);
-        if let Some(kinds) = &other.kinds {
-            self.kinds.get_or_insert_with(Kinds::default).add(kinds);
+        if let (Some(kinds), Some(others)) = (&mut self.kinds, &other.kinds) {
+            kinds.add(others);
         }
     }
 

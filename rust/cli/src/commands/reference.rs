@@ -29,7 +29,8 @@ pub fn run(arguments: &ReferenceArguments) -> Result<Status, Failure> {
     let Packing { sequences, bases, others } = packing;
     let (name, count) = (&text.name, sequences.len());
     say(&format!(
-        "{name}: {count} sequences, {bases} bases, {others} of them stored as A for another letter\n"
+        "{name}: {count} sequences, {bases} bases, \
+         {others} of them stored as A for another letter\n"
     ));
     Ok(ACCEPTED)
 }

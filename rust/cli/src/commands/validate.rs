@@ -116,7 +116,8 @@ impl Verdict {
                 let ora::Refusal { number, block, read } = refused.refusal;
                 let (offset, sentence) = (refused.offset.unwrap_or(0), refused.sentence());
                 format!(
-                    "{file}: refused {number}, block {block}, read {read}, offset {offset}: {sentence}\n"
+                    "{file}: refused {number}, block {block}, read {read}, offset {offset}: \
+                     {sentence}\n"
                 )
             }
         }
@@ -130,7 +131,8 @@ impl Verdict {
             let (name, reason) = (refused.refusal.name(), json_string(refused.sentence()));
             let offset = refused.offset.unwrap_or(0);
             format!(
-                r#"{{"number":{number},"name":"{name}","reason":{reason},"block":{block},"read":{read},"offset":{offset}}}"#
+                "{{\"number\":{number},\"name\":\"{name}\",\"reason\":{reason},\
+                 \"block\":{block},\"read\":{read},\"offset\":{offset}}}"
             )
         });
         let (file, accepted) = (json_string(file), refused.is_none());
