@@ -1,0 +1,25 @@
+-- `choices::placement_of` meets its contract. Assumes nothing.
+use borrow.Author.Needs.{needs}
+use Rattle.record_writer.specs.Chosen.{placementOf}
+use Rattle.choices.proofs.placement_of.Statement.{statement}
+use Rattle.choices.proofs.placement_of.Tie as tie
+
+wide64-requires : tie.Need-wide64-requires
+wide64-requires c κs = search needs
+
+strand-of-requires : tie.Need-strand-of-requires
+strand-of-requires c κs = search needs
+
+returns : tie.Need-returns
+unfolding placementOf
+returns c =
+    let a = c .before .before .args in
+    λ i. record {
+      position = c .before .wide64 .ensures .0 i;
+      strand = c .strand-of .ensures i;
+      left = a .left;
+      right = a .right;
+    }
+
+pub placement-of-spec : {M : Type 1} → statement M
+placement-of-spec = tie.close (tie.spec wide64-requires strand-of-requires returns)
