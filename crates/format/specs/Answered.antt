@@ -31,7 +31,8 @@ outcomeOfFile (files.Accepted blocks′ counts) = acceptedFile blocks′ (counte
 outcomeOfFile (files.Refused number block read) = refusal number block read
 
 -- Whether a file is accepted. It is said beside the outcome, since that of the empty file has no
--- value but 0, as a refusal with number 0 would have.
+-- value but 0, as a refusal with number 0 would have. A block that is accepted has a length, and a
+-- refusal has none.
 unfoldable pub acceptsFile : (answer : FileOutcome) → Bool
 acceptsFile (files.Accepted blocks′ counts) = true
 acceptsFile (files.Refused number block read) = false

@@ -140,8 +140,9 @@ pub record GivenExactly (bases : ℕ) (reference input : List ℕ) : Type 0 wher
 
 -- When 1 is given, and the writer's numbers: by every call, the empty file included.
 pub record GivenFirst (bases : ℕ) (reference : List ℕ) : Type 0 where
-  pub decode : (input letters ends : List ℕ) → referenceSizeWrong bases reference ≡ true
-      → decoded bases reference input letters ends ≡ refusal 1 0 0
+  pub decode : (input letters ends : List ℕ)
+      → (decoded bases reference input letters ends ≡ refusal 1 0 0)
+      ↔ (referenceSizeWrong bases reference ≡ true)
   pub validateBlock : (input : List ℕ)
       → (validatedBlock bases reference input ≡ refusal 1 0 0)
       ↔ (referenceSizeWrong bases reference ≡ true)

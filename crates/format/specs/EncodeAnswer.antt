@@ -29,6 +29,20 @@ pub record EncodeInput : Type 0 where
   pub id : ℕ
   pub time : ℕ
 
+-- The input of the slices and numbers that a call is given.
+abbrev pub lent : (letters ends positions strands lefts rights : List ℕ) (id time : ℕ) → EncodeInput
+lent letters ends positions strands lefts rights id time =
+    record {
+      letters = letters;
+      ends = ends;
+      positions = positions;
+      strands = strands;
+      lefts = lefts;
+      rights = rights;
+      id = id;
+      time = time;
+    }
+
 -- The reads as codes: each is the letters from the end before it, or 0, to its own.
 unfoldable pub readsOfInput : (input : EncodeInput) → List (List ℕ)
 readsOfInput input =

@@ -15,7 +15,7 @@ use Rattle.base.specs.Answer.{refusedAs}
 use Rattle.base.proofs.ListLaws.{by-test}
 use Rattle.base.proofs.AnswerLaws.{refused-same, absurd-refused, checked-none, checked-first}
 use Rattle.base.proofs.AnswerLaws.{andThen-found, andThen-stops, andThen-refused, refusedAs-found}
-use Rattle.base.proofs.AnswerLaws.{Refuses}
+use Rattle.base.proofs.AnswerLaws.{Refuses, checked-refuses, andThen-refuses}
 use Rattle.base.proofs.AnswerLaws.{refuses-too, refuses-with, cond-yes, cond-no}
 use Rattle.base.proofs.Tests.{or-right}
 use Rattle.dna.specs.Reference.{referenceSizeWrong, ReferenceFits}
@@ -281,7 +281,19 @@ pub given-first : (bases : ℕ) (reference : List ℕ) → GivenFirst bases refe
 unfolding decoded decodeAnswer andThen blockOutcome validated fileAnswer fileOutcome
 given-first bases reference =
     record {
-      decode = λ input letters ends wrong. rw (reference-refused bases reference input wrong) refl;
+      decode = λ input letters ends. (
+        λ e.
+            by-test (referenceSizeWrong bases reference) (λ t. t)
+            (λ t.
+            let one = refuses-with (λ refusal. 2 ≤ refusal .number)
+            (refused-answer bases reference (decodeAnswer bases reference input letters ends) 1 0 (omega arith) e)
+            (andThen-refuses (λ refusal. 2 ≤ refusal .number) (blockAnswer bases reference input) _
+            (two-least bases reference input t)
+            (λ divided next found-is.
+            checked-refuses (λ refusal. 2 ≤ refusal .number) (ofRead 0) _ _ (omega arith, tt) tt)) in
+            absurd (omega (arith, one))),
+        λ wrong. rw (reference-refused bases reference input wrong) refl,
+      );
       validateBlock = λ input. (
         λ e.
             by-test (referenceSizeWrong bases reference) (λ t. t)
