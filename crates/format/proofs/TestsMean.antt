@@ -28,6 +28,7 @@ use Rattle.format.specs.HeaderFaults.{flagUnsupported, readCountOutOfRan
 use Rattle.format.specs.HeaderFaults.{tableFaults, headerFaults}
 use Rattle.format.specs.Lengths.{dnaSizeWrong, nSectionWrong}
 use Rattle.format.specs.BlockAnswer.{headerRefused, sectionAnswer, spanAnswer, idAnswer}
+use Rattle.format.specs.BlockAnswer.{lengthAnswer}
 use Rattle.format.specs.Meaning.{lengthField, SignedIs, HeaderMeans, startOf, AskedHolds}
 use Rattle.format.specs.Meaning.{TestsMean}
 use Rattle.format.proofs.SectionLaws.{lengths-build, sectionLength-at, sectionLength-above}
@@ -285,7 +286,7 @@ span-at input none number few some =
     (start-is input (le 4 input 2) number (accepted-signed input none .header) few)
 
 asked : (input : List ℕ) → AskedHolds input
-unfolding idAnswer sectionAnswer headerOf
+unfolding idAnswer lengthAnswer sectionAnswer headerOf
 asked input =
     record {
       sections = stands input;
@@ -296,6 +297,9 @@ asked input =
       nowhere = span-none input;
       id = λ h. cond-no _ (accepted input h) refl;
       no-id = λ wrong. cond-yes _ (rejected input wrong) refl;
+      whole = λ h.
+          cond-no _ (accepted input h) (block-is input (le 4 input 2) (accepted-signed input h .header));
+      no-length = λ wrong. cond-yes _ (rejected input wrong) refl;
     }
 
 -- The tests of reading say what 01 says.

@@ -53,6 +53,11 @@ spanAnswer input number =
 unfoldable pub idAnswer : (input : List ℕ) → ℕ
 idAnswer input = cond (headerRefused input) 0 (headerOf input .«b_id»)
 
+-- The block's length, by which a file is cut before its blocks are judged; 0 if the header earns 2
+-- to 8. No call of 01's asks for it.
+unfoldable pub lengthAnswer : (input : List ℕ) → ℕ
+lengthAnswer input = cond (headerRefused input) 0 (blockLength (headerOf input))
+
 -- ---- Judging
 
 -- The lengths of a block.

@@ -18,7 +18,7 @@ use Rattle.format.specs.HeaderFaults.{headerTruncated, magicWrong, versi
 use Rattle.format.specs.HeaderFaults.{headerLengthTooSmall, flagUnsupported}
 use Rattle.format.specs.HeaderFaults.{readCountOutOfRange, sectionsTruncated, headerFaults}
 use Rattle.format.specs.Lengths.{dnaSizeWrong, nSectionWrong}
-use Rattle.format.specs.BlockAnswer.{sectionAnswer, spanAnswer, idAnswer}
+use Rattle.format.specs.BlockAnswer.{sectionAnswer, spanAnswer, idAnswer, lengthAnswer}
 
 -- How many bytes section `number`, 0 to 8, has.
 abbrev pub lengthField : (input : List ℕ) (number : ℕ) → ℕ
@@ -52,7 +52,8 @@ pub record HeaderMeans (input : List ℕ) : Type 0 where
 abbrev pub startOf : (input : List ℕ) (number : ℕ) → ℕ
 startOf input number = le 4 input 2 + total (build number (lengthField input))
 
--- What the calls on sections and on the b_id answer. The span of an empty section is 0, 0.
+-- What the calls on sections, on the b_id and on the length answer. The span of an empty section is
+-- 0, 0.
 pub record AskedHolds (input : List ℕ) : Type 0 where
   pub sections : NoneFits (headerFaults input) → (number : ℕ) → number < 9
       → sectionAnswer input number
@@ -68,6 +69,8 @@ pub record AskedHolds (input : List ℕ) : Type 0 where
       → sectionAnswer input number ≡ []
   pub id : NoneFits (headerFaults input) → idAnswer input ≡ le 8 input 56
   pub no-id : (NoneFits (headerFaults input) → ⊥) → idAnswer input ≡ 0
+  pub whole : NoneFits (headerFaults input) → lengthAnswer input ≡ startOf input 9
+  pub no-length : (NoneFits (headerFaults input) → ⊥) → lengthAnswer input ≡ 0
 
 pub record TestsMean : Type 0 where
   -- 1: G bases, G from 0 to 4,294,967,295, in exactly (G+3)/4 bytes rounded down.
