@@ -64,13 +64,28 @@ referenceStart header = caseHeaderLength + header .label
 abbrev pub inputStart : (header : CaseHeader) → ℕ
 inputStart header = referenceStart header + header .reference
 
--- The length of the header and of the parts, in their order; ends and positions take 4 bytes each.
+-- Where what is given to the writer starts, part after part; ends and positions take 4 bytes each.
+abbrev pub lettersStart : (header : CaseHeader) → ℕ
+lettersStart header = inputStart header + header .input
+
+abbrev pub endsStart : (header : CaseHeader) → ℕ
+endsStart header = lettersStart header + header .letters
+
+abbrev pub positionsStart : (header : CaseHeader) → ℕ
+positionsStart header = endsStart header + 4 * header .stored
+
+abbrev pub strandsStart : (header : CaseHeader) → ℕ
+strandsStart header = positionsStart header + 4 * header .positions
+
+abbrev pub leftsStart : (header : CaseHeader) → ℕ
+leftsStart header = strandsStart header + header .strands
+
+abbrev pub rightsStart : (header : CaseHeader) → ℕ
+rightsStart header = leftsStart header + header .lefts
+
+-- The length of the header and of the parts.
 abbrev pub caseSize : (header : CaseHeader) → ℕ
-caseSize header =
-    inputStart header + header .input + header .letters + 4 * header .stored + 4 * header .positions
-    + header .strands
-    + header .lefts
-    + header .rights
+caseSize header = rightsStart header + header .rights
 
 -- The case with which the bytes begin, if all of it is there and has the length that it says.
 unfoldable pub caseAnswer : (bytes : List ℕ) → CaseRead

@@ -4,7 +4,7 @@ use integers::size32;
 use integers::u32_at;
 use integers::u64_at;
 ghost use mathlib.Core.Path.{_≡_};
-ghost use Prim.Native.Nat.{_≤_, _<_, _^_};
+ghost use Prim.Native.Nat.{_*_, _≤_, _<_, _^_};
 ghost use lib.ListN.{length};
 ghost use Rattle.base.specs.Lists.{part};
 ghost use Rattle.cases.specs.CaseFile.{
@@ -15,6 +15,12 @@ ghost use Rattle.cases.specs.CaseFile.{
   caseAnswer,
   referenceStart,
   inputStart,
+  lettersStart,
+  endsStart,
+  positionsStart,
+  strandsStart,
+  leftsStart,
+  rightsStart,
 };
 
 // Before the cases: the magic, the number of cases, zeros.
@@ -108,6 +114,47 @@ pub fn input_part(bytes: &[u8], header: CaseHeader) -> &[u8]
     bytes_from(bytes, input_start(header), size32(header.input))
 }
 
+// The letters that are given to the writer.
+pub fn letters_part(bytes: &[u8], header: CaseHeader) -> &[u8]
+    ensures { λ r. ⌜ now r ≡ part (now (bytes .entry)) (lettersStart header) (header .letters) ⌝ }
+{
+    bytes_from(bytes, letters_start(header), size32(header.letters))
+}
+
+// The ends that are stored, four bytes each.
+pub fn ends_part(bytes: &[u8], header: CaseHeader) -> &[u8]
+    ensures { λ r. ⌜ now r ≡ part (now (bytes .entry)) (endsStart header) (4 * header .stored) ⌝ }
+{
+    bytes_from(bytes, ends_start(header), 4 * size32(header.stored))
+}
+
+// The positions that are proposed, four bytes each.
+pub fn positions_part(bytes: &[u8], header: CaseHeader) -> &[u8]
+    ensures { λ r. ⌜ now r ≡ part (now (bytes .entry)) (positionsStart header) (4 * header .positions) ⌝ }
+{
+    bytes_from(bytes, positions_start(header), 4 * size32(header.positions))
+}
+
+// The strands that are proposed.
+pub fn strands_part(bytes: &[u8], header: CaseHeader) -> &[u8]
+    ensures { λ r. ⌜ now r ≡ part (now (bytes .entry)) (strandsStart header) (header .strands) ⌝ }
+{
+    bytes_from(bytes, strands_start(header), size32(header.strands))
+}
+
+// The letters clipped left and right that are proposed.
+pub fn lefts_part(bytes: &[u8], header: CaseHeader) -> &[u8]
+    ensures { λ r. ⌜ now r ≡ part (now (bytes .entry)) (leftsStart header) (header .lefts) ⌝ }
+{
+    bytes_from(bytes, lefts_start(header), size32(header.lefts))
+}
+
+pub fn rights_part(bytes: &[u8], header: CaseHeader) -> &[u8]
+    ensures { λ r. ⌜ now r ≡ part (now (bytes .entry)) (rightsStart header) (header .rights) ⌝ }
+{
+    bytes_from(bytes, rights_start(header), size32(header.rights))
+}
+
 // ---- Parts of the reading
 
 // The fields of a header, each at its offset.
@@ -141,11 +188,7 @@ fn read_header(bytes: &[u8]) -> CaseHeader
 fn case_size(header: CaseHeader) -> usize
     ensures { λ r. ⌜ r ≡ caseSize header ⌝ }
 {
-    let reading = input_start(header) + size32(header.input) + size32(header.letters);
-    let ends = 4 * size32(header.stored);
-    let positions = 4 * size32(header.positions);
-    let strands = size32(header.strands);
-    reading + ends + positions + strands + size32(header.lefts) + size32(header.rights)
+    rights_start(header) + size32(header.rights)
 }
 
 // Where the reference starts.
@@ -160,6 +203,43 @@ fn input_start(header: CaseHeader) -> usize
     ensures { λ r. ⌜ (r ≡ inputStart header) × (r < 2 ^ 33) ⌝ }
 {
     reference_start(header) + size32(header.reference)
+}
+
+// Where each of the parts that are given to the writer starts.
+fn letters_start(header: CaseHeader) -> usize
+    ensures { λ r. ⌜ (r ≡ lettersStart header) × (r < 2 ^ 34) ⌝ }
+{
+    input_start(header) + size32(header.input)
+}
+
+fn ends_start(header: CaseHeader) -> usize
+    ensures { λ r. ⌜ (r ≡ endsStart header) × (r < 2 ^ 35) ⌝ }
+{
+    letters_start(header) + size32(header.letters)
+}
+
+fn positions_start(header: CaseHeader) -> usize
+    ensures { λ r. ⌜ (r ≡ positionsStart header) × (r < 2 ^ 36) ⌝ }
+{
+    ends_start(header) + 4 * size32(header.stored)
+}
+
+fn strands_start(header: CaseHeader) -> usize
+    ensures { λ r. ⌜ (r ≡ strandsStart header) × (r < 2 ^ 37) ⌝ }
+{
+    positions_start(header) + 4 * size32(header.positions)
+}
+
+fn lefts_start(header: CaseHeader) -> usize
+    ensures { λ r. ⌜ (r ≡ leftsStart header) × (r < 2 ^ 38) ⌝ }
+{
+    strands_start(header) + size32(header.strands)
+}
+
+fn rights_start(header: CaseHeader) -> usize
+    ensures { λ r. ⌜ (r ≡ rightsStart header) × (r < 2 ^ 39) ⌝ }
+{
+    lefts_start(header) + size32(header.lefts)
 }
 
 // The `count` bytes from `from` on, or as many of them as there are.
