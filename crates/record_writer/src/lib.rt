@@ -46,7 +46,7 @@ pub fn record_length(
     requires { ⌜ Writable «record» entries (now letters) from to count ⌝ }
     ensures { λ r. ⌜ ((written : List Entry) → length written ≡ entries
         → r ≡ length (writtenBytes previous «record» written
-        (codesIn (now (letters .entry)) from to))) ⌝ }
+        (codesIn (now (letters .entry)) from to))) × (r ≤ 2 ^ 24) ⌝ }
 {
     let fields = fields_length(record, previous, entries, to - from);
     if list_stored(record, count) {

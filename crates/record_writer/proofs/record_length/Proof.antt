@@ -35,16 +35,22 @@ returns c =
     let start = c .before .before .before .before .before in
     let a = start .args in
     let lies = start .pre .lies in
-    let size = length-codesIn (a .letters .now) (a .from) (a .to) (lies .ordered) (lies .inside) in
-    λ written many.
-    omega (
-      arith,
-      c .before .before .before .fields-length .ensures .0 written
-          (codesIn (a .letters .now) (a .from) (a .to)) many size,
-      c .n-list-length .ensures .0,
-      length-with (a .previous) written (codesIn (a .letters .now) (a .from) (a .to)) (a .count)
-          (start .pre .counted) (a .«record») (sym (c .before .before .list-stored .ensures)
-          ∙ c .before .if1 .taken),
+    let size = length-codesIn (a .letters .now) (a .from) (a .to) (lies .ordered) (lies .inside) in (
+      λ written many.
+          omega (
+            arith,
+            c .before .before .before .fields-length .ensures .0 written
+                (codesIn (a .letters .now) (a .from) (a .to)) many size,
+            c .n-list-length .ensures .0,
+            length-with (a .previous) written (codesIn (a .letters .now) (a .from) (a .to))
+                (a .count) (start .pre .counted) (a .«record»)
+                (sym (c .before .before .list-stored .ensures) ∙ c .before .if1 .taken),
+          ),
+      omega (
+        arith,
+        c .before .before .before .fields-length .ensures .1,
+        c .n-list-length .ensures .1,
+      ),
     )
 
 returns-2 : tie.Need-returns-2
@@ -52,13 +58,15 @@ returns-2 c =
     let start = c .before .before .before .before in
     let a = start .args in
     let lies = start .pre .lies in
-    let size = length-codesIn (a .letters .now) (a .from) (a .to) (lies .ordered) (lies .inside) in
-    λ written many.
-    c .before .before .fields-length .ensures .0 written
-    (codesIn (a .letters .now) (a .from) (a .to)) many size
-    ∙ sym (length-without (a .previous) written (codesIn (a .letters .now) (a .from) (a .to))
-    (a .count) (start .pre .counted) (a .«record») (sym (c .before .list-stored .ensures)
-    ∙ c .if1 .left))
+    let size = length-codesIn (a .letters .now) (a .from) (a .to) (lies .ordered) (lies .inside) in (
+      λ written many.
+          c .before .before .fields-length .ensures .0 written
+          (codesIn (a .letters .now) (a .from) (a .to)) many size
+          ∙ sym (length-without (a .previous) written (codesIn (a .letters .now) (a .from) (a .to))
+          (a .count) (start .pre .counted) (a .«record») (sym (c .before .list-stored .ensures)
+          ∙ c .if1 .left)),
+      omega (arith, c .before .before .fields-length .ensures .1),
+    )
 
 pub record-length-spec : {M : Type 1} → statement M
 record-length-spec =
