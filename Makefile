@@ -2,8 +2,8 @@
 # make trace: every path and name in docs/TRACE.md is in the tree; it needs only a shell and awk.
 # make second: make trace, and the tests of the second implementation; it needs cargo.
 # make corpus: makes its cases in crates/corpus again (rust/second/CORPUS.md); it needs cargo.
-# make bench: measures the writers of a stretch, the walk over the lengths and the encoder of a size section
-# (docs/BENCHMARK.md); it needs cargo, and x86-64.
+# make bench: measures whole blocks, the writers of a stretch, the walk over the lengths and the encoder of a size
+# section (docs/BENCHMARK.md); it needs cargo, and Linux on x86-64. It fails where answers differ, never for a speed.
 # make compare: the library and the second implementation on a million cases (rust/compare), the tests of the Rust
 # wrapper (rust/ora) and the examples in C; it needs cargo, a C compiler, and x86-64. SEED and COUNT choose other
 # cases; with CASE one case of a seed is run, and nothing else.
@@ -35,9 +35,7 @@ corpus:
 	  || { echo "corpus: Rust is missing: there is no command 'cargo' on the PATH" >&2; exit 2; }
 	@cargo run --release --quiet --offline --manifest-path rust/second/Cargo.toml --bin make_corpus -- crates/corpus
 
-bench:
-	@command -v rt >/dev/null 2>&1 \
-	  || { echo "bench: the Rattle toolchain is missing: there is no command 'rt' on the PATH" >&2; exit 2; }
+bench: library
 	@command -v cargo >/dev/null 2>&1 \
 	  || { echo "bench: Rust is missing: there is no command 'cargo' on the PATH" >&2; exit 2; }
 	@rt staticlib bench_exports
