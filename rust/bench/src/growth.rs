@@ -41,9 +41,8 @@ fn with_buffers(work: Work) -> (Work, Buffers) {
 }
 
 fn run(way: &Way, column: &mut Column, tables: &Tables) -> Duration {
-    for (work, to) in column.iter_mut() {
-        to.warm(work);
-    }
+    column.iter().for_each(|(work, _)| touch(work));
+    column.iter_mut().for_each(|(work, to)| to.fill(work));
     timed(|| {
         for (work, to) in column {
             black_box((way.run)(black_box(work), tables, black_box(to)));

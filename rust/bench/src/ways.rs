@@ -5,6 +5,8 @@ use crate::works::{Work, B_ID, C_TIME};
 use ora::{BlockSummary, Reference};
 use std::hint::black_box;
 
+const CACHE_LINE: usize = 64;
+
 /// What the ways write to.
 pub struct Buffers {
     letters: Vec<u8>,
@@ -23,11 +25,18 @@ impl Buffers {
         }
     }
 
-    /// Puts the letters of a block where they will be written, so that every way finds them in the
-    /// same caches.
-    pub fn warm(&mut self, work: &Work) {
+    /// Copies the letters to where they will be written.
+    pub fn fill(&mut self, work: &Work) {
         let letters = work.columns().letters;
         black_box(&mut self.letters)[..letters.len()].copy_from_slice(black_box(letters));
+    }
+}
+
+/// Reads the reference and the block. With the letters filled in after it, every way finds the same
+/// caches, whichever ran before it.
+pub fn touch(work: &Work) {
+    for bytes in [work.reference(), &work.block] {
+        black_box(bytes.iter().step_by(CACHE_LINE).fold(0, |sum, byte| sum ^ byte));
     }
 }
 
