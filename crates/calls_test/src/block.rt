@@ -3,6 +3,8 @@
 use header::faults::SAME_LENGTH_FLAG;
 use header::writing::VaryingFields;
 use header::writing::put_header;
+ghost use mathlib.Core.Path.{_≡_};
+ghost use lib.ListN.{length};
 
 // Room for a block.
 pub const BLOCK_CAPACITY: usize = 384;
@@ -12,6 +14,13 @@ const SECTION_CAPACITY: usize = 128;
 
 // Where the DNA section starts.
 pub const DNA_START: usize = 121;
+
+// Zeros, with room for a block.
+pub fn block_buffer() -> [u8; BLOCK_CAPACITY]
+    ensures { λ r. ⌜ 384 ≡ length r ⌝ }
+{
+    [0; BLOCK_CAPACITY]
+}
 
 // What a header says of the reads.
 pub struct Reads {

@@ -3,6 +3,7 @@
 // is still good. The read is 0, but for the case of 11 bases, in which read 8, at position 8,
 // leaves the reference, and for the N section's byte of the second group, whose first read is 8.
 use crate::block::BLOCK_CAPACITY;
+use crate::block::block_buffer;
 use crate::block::put_bytes_at;
 use crate::block::varied_reads;
 use crate::block::write_block;
@@ -60,13 +61,13 @@ fn run_good() {
     run_field(b"0 flag 0x2", FLAGS_AT, 0x3);
 }
 
-// 1, before 2 too, and of bases whose number of bytes a sum of 64 bits would lose; and 15.
+// 1, before 2 too, and of bases that 32 bits would cut to 12 or a sum of 64 bits to none; and 15.
 fn run_references() {
     run_reference(b"1 reference of 2 bytes", 12, b"\x1b\x1b");
     run_reference(b"1 reference of 4 bytes", 12, b"\x1b\x1b\xe4\x00");
     run_reference(b"1 13 bases", 13, b"\x1b\x1b\xe4");
     run_reference(b"1 8 bases", 8, b"\x1b\x1b\xe4");
-    run_reference(b"1 2^32 bases", 0x1_0000_0000, b"\x1b\x1b\xe4");
+    run_reference(b"1 2^32 + 12 bases", 0x1_0000_000c, b"\x1b\x1b\xe4");
     run_reference(b"1 2^64 - 3 bases", 0xffff_ffff_ffff_fffd, b"");
     run_reference(b"1 2^64 - 1 bases", 0xffff_ffff_ffff_ffff, b"");
     run_reference(b"15 11 bases", 11, b"\x1b\x1b\xe4");
@@ -143,7 +144,7 @@ pub fn buffers() -> Room {
 
 // The first bytes of the block, at most so many.
 fn run_input(label: &[u8], most: usize) {
-    let mut block = [0u8; BLOCK_CAPACITY];
+    let mut block = block_buffer();
     let length = write_good(&mut block);
     show(
         label,
@@ -154,7 +155,7 @@ fn run_input(label: &[u8], most: usize) {
 
 // The block under another reference.
 fn run_reference(label: &[u8], bases: u64, reference: &[u8]) {
-    let mut block = [0u8; BLOCK_CAPACITY];
+    let mut block = block_buffer();
     let length = write_good(&mut block);
     show_under(
         label,
@@ -167,7 +168,7 @@ fn run_reference(label: &[u8], bases: u64, reference: &[u8]) {
 
 // The block with a field of two bytes replaced.
 fn run_short_field(label: &[u8], at: usize, number: u16) {
-    let mut block = [0u8; BLOCK_CAPACITY];
+    let mut block = block_buffer();
     let length = write_good(&mut block);
     if BLOCK_CAPACITY - 2 < at {
         return;
@@ -178,7 +179,7 @@ fn run_short_field(label: &[u8], at: usize, number: u16) {
 
 // The block with a field of four bytes replaced.
 fn run_field(label: &[u8], at: usize, number: u32) {
-    let mut block = [0u8; BLOCK_CAPACITY];
+    let mut block = block_buffer();
     let length = write_good(&mut block);
     if BLOCK_CAPACITY - 4 < at {
         return;
@@ -192,14 +193,14 @@ fn run_size_section(label: &[u8], sizes: &[u8]) {
     let mut dna = [0u8; 28];
     put_bytes_at(b"\xff\xff\x00\xff", &mut dna, 0);
     put_bytes_at(b"\xc0\xc0\x00\xc0", &mut dna, 20);
-    let mut block = [0u8; BLOCK_CAPACITY];
+    let mut block = block_buffer();
     let length = write_block(varied_reads(10, 40), &dna, sizes, b"\x00\x00", &mut block);
     show(label, first_bytes(&block, length), buffers());
 }
 
 // The block with this N section.
 fn run_n_section(label: &[u8], ns: &[u8]) {
-    let mut block = [0u8; BLOCK_CAPACITY];
+    let mut block = block_buffer();
     let length = write_ten(
         4,
         b"\xc0\xc0\x00\x80\x07\x00\x04\x00\x00\x00",

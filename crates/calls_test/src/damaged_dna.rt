@@ -2,7 +2,7 @@
 // and show which rule comes first. A name begins with the number that the table of refusals gives.
 // The read is 8 for the group's bytes and for the first record, which is perfect, 9 for the second
 // record, and 0 for 21.
-use crate::block::BLOCK_CAPACITY;
+use crate::block::block_buffer;
 use crate::block::put_bytes_at;
 use crate::damage::buffers;
 use crate::parts::first_bytes;
@@ -204,7 +204,7 @@ fn run_ns(label: &[u8], second: &[u8]) {
 
 // A block with this second group.
 fn run_second(label: &[u8], size: u32, second: &[u8], ns: &[u8]) {
-    let mut block = [0u8; BLOCK_CAPACITY];
+    let mut block = block_buffer();
     let length = write_ten(size, second, ns, &mut block);
     show(label, first_bytes(&block, length), buffers());
 }

@@ -20,6 +20,7 @@
 //   15 raw                      C
 //   16 perfect, step 2, at 7    TTGCA
 use crate::block::BLOCK_CAPACITY;
+use crate::block::block_buffer;
 use crate::block::put_bytes_at;
 use crate::block::varied_reads;
 use crate::block::write_block;
@@ -45,14 +46,14 @@ pub fn run_groups() {
 
 // The first so many bytes of the block and the zeros after it, with room to spare.
 fn run_input(label: &[u8], most: usize) {
-    let mut block = [0u8; BLOCK_CAPACITY];
+    let mut block = block_buffer();
     write_groups(&mut block);
     show(label, first_bytes(&block, most), room_of(80, 19));
 }
 
 // The block with this room.
 fn run_room(label: &[u8], room: Room) {
-    let mut block = [0u8; BLOCK_CAPACITY];
+    let mut block = block_buffer();
     let length = write_groups(&mut block);
     show(label, first_bytes(&block, length), room);
 }

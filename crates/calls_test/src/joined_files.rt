@@ -2,7 +2,7 @@
 // a block without reads (121 bytes), one after the other. They end at 132, 369 and 490; their
 // counts are 1 4 1 1, 17 77 5 3 and 0 0 0 0. A file that ends one byte before a block's end earns 8
 // there, or 2 where fewer than 121 bytes are left, as one byte after it.
-use crate::block::BLOCK_CAPACITY;
+use crate::block::block_buffer;
 use crate::block::equal_reads;
 use crate::block::put_bytes_at;
 use crate::block::varied_reads;
@@ -13,8 +13,10 @@ use crate::lines::put_number;
 use crate::lines::put_text;
 use crate::outcomes::put_file_outcome;
 use crate::parts::first_bytes;
+ghost use mathlib.Core.Path.{_≡_};
+ghost use lib.ListN.{length};
 
-// Room for the file and more.
+// More bytes than the file has.
 const FILE_CAPACITY: usize = 500;
 
 // Where the second and the third block start, and where the file ends.
@@ -56,7 +58,7 @@ fn run_cuts() {
 fn run_references() {
     run_file_under(b"empty file, wrong reference", 13, b"\x1b\x1b\xe4", b"");
     run_file_under(b"empty file, no bases", 0, b"", b"");
-    let mut file = [0u8; FILE_CAPACITY];
+    let mut file = file_buffer();
     write_file(&mut file);
     run_file_under(
         b"wrong reference",
@@ -79,7 +81,7 @@ fn run_damaged() {
 fn run_alone() {
     run_example(b"one block", 132);
     run_example(b"the same twice", 264);
-    let mut file = [0u8; FILE_CAPACITY];
+    let mut file = file_buffer();
     put_empty(&mut file, 0);
     run_file(b"no reads", first_bytes(&file, 121));
 }
@@ -88,7 +90,7 @@ fn run_alone() {
 
 // The first so many bytes of the file.
 fn run_cut(end: usize) {
-    let mut file = [0u8; FILE_CAPACITY];
+    let mut file = file_buffer();
     write_file(&mut file);
     put_text(b"file of");
     put_number(end as u64);
@@ -97,7 +99,7 @@ fn run_cut(end: usize) {
 
 // The file with a byte replaced.
 fn run_byte(label: &[u8], at: usize, byte: u8) {
-    let mut file = [0u8; FILE_CAPACITY];
+    let mut file = file_buffer();
     write_file(&mut file);
     put_bytes_at(&[byte], &mut file, at);
     run_file(label, first_bytes(&file, FILE_LENGTH));
@@ -105,7 +107,7 @@ fn run_byte(label: &[u8], at: usize, byte: u8) {
 
 // The file with the step and the third magic replaced: the first refusal counts.
 fn run_both(label: &[u8]) {
-    let mut file = [0u8; FILE_CAPACITY];
+    let mut file = file_buffer();
     write_file(&mut file);
     put_bytes_at(&[3], &mut file, LAST_STEP_AT);
     put_bytes_at(&[0], &mut file, THIRD_AT);
@@ -114,7 +116,7 @@ fn run_both(label: &[u8]) {
 
 // The first so many bytes of two blocks of the listing.
 fn run_example(label: &[u8], end: usize) {
-    let mut file = [0u8; FILE_CAPACITY];
+    let mut file = file_buffer();
     put_example(&mut file, 0);
     put_example(&mut file, SECOND_AT);
     run_file(label, first_bytes(&file, end));
@@ -135,6 +137,13 @@ fn run_file_under(label: &[u8], bases: u64, reference: &[u8], file: &[u8]) {
 
 // ---- The blocks
 
+// Zeros, with room for the file and more.
+fn file_buffer() -> [u8; FILE_CAPACITY]
+    ensures { λ r. ⌜ 500 ≡ length r ⌝ }
+{
+    [0; FILE_CAPACITY]
+}
+
 fn write_file(file: &mut [u8]) {
     put_example(file, 0);
     put_groups(file, SECOND_AT);
@@ -143,21 +152,21 @@ fn write_file(file: &mut [u8]) {
 
 // The block of the listing: the fifth row.
 fn put_example(file: &mut [u8], at: usize) {
-    let mut block = [0u8; BLOCK_CAPACITY];
+    let mut block = block_buffer();
     let dna = b"\x00\x80\x00\x00\x0c\x00\x00\x00\x00\x0b";
     let length = write_block(equal_reads(1, 4, 4), dna, b"", b"\x00", &mut block);
     put_bytes_at(first_bytes(&block, length), file, at);
 }
 
 fn put_groups(file: &mut [u8], at: usize) {
-    let mut block = [0u8; BLOCK_CAPACITY];
+    let mut block = block_buffer();
     let length = write_groups(&mut block);
     put_bytes_at(first_bytes(&block, length), file, at);
 }
 
 // The block without reads.
 fn put_empty(file: &mut [u8], at: usize) {
-    let mut block = [0u8; BLOCK_CAPACITY];
+    let mut block = block_buffer();
     let length = write_block(varied_reads(0, 0), b"", b"", b"", &mut block);
     put_bytes_at(first_bytes(&block, length), file, at);
 }

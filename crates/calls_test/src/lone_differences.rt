@@ -1,7 +1,7 @@
 // The sums on a lone difference, as the fixed rule writes it: a read that takes the reference from
 // base 0 on and differs in its last letter alone, with fillers of A at steps of 63 before it. At 64
 // that makes 2 entries, at 127 three, at 1953 = 31 * 63 thirty-one.
-use crate::block::BLOCK_CAPACITY;
+use crate::block::block_buffer;
 use crate::block::equal_reads;
 use crate::block::put_bytes_at;
 use crate::block::write_block;
@@ -34,7 +34,7 @@ fn run_read(label: &[u8], size: u32, dna: &[u8]) {
     if size < 4 {
         return;
     }
-    let mut block = [0u8; BLOCK_CAPACITY];
+    let mut block = block_buffer();
     let length = write_block(equal_reads(1, size, size), dna, b"", b"\x00", &mut block);
     run_block(label, first_bytes(&block, length), size32(size - 4));
 }

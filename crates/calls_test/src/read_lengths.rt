@@ -1,7 +1,7 @@
 // The sums on lengths, as blocks of perfect reads that end where the reference does: 65,535 bases,
 // all A but the last, T. What is left of the last byte is no base. Only the last four letters, and
 // four past them, are printed.
-use crate::block::BLOCK_CAPACITY;
+use crate::block::block_buffer;
 use crate::block::put_bytes_at;
 use crate::block::varied_reads;
 use crate::block::write_block;
@@ -35,7 +35,7 @@ pub fn run_lengths() {
 
 // Lengths 5, 5, 300, at 0, 65530 and 65235.
 fn run_list() {
-    let mut block = [0u8; BLOCK_CAPACITY];
+    let mut block = block_buffer();
     let length = write_block(
         varied_reads(3, 310),
         b"\xe0\xe0\x00\x00\x00\x00\x00\x00\xfa\xff\x00\x00\xd3\xfe\x00\x00",
@@ -61,7 +61,7 @@ fn run_read(label: &[u8], size: u32, step: &[u8], sizes: &[u8]) {
     }
     let mut dna = [0x80, 0x80, 0x00, 0x80, 0x00, 0x00];
     put_bytes_at(step, &mut dna, 4);
-    let mut block = [0u8; BLOCK_CAPACITY];
+    let mut block = block_buffer();
     let length = write_block(varied_reads(1, size), &dna, sizes, b"\x00", &mut block);
     run_block(label, first_bytes(&block, length), size32(size - 4));
 }

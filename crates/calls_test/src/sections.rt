@@ -3,6 +3,7 @@
 // first at 124. m2 is empty, so its span is 0 0; so are those of the numbers past 8 and of a header
 // that is refused, and then b_id is 0.
 use crate::block::BLOCK_CAPACITY;
+use crate::block::block_buffer;
 use crate::block::put_bytes_at;
 use crate::lines::end_line;
 use crate::lines::put_bytes;
@@ -29,7 +30,7 @@ pub fn run_sections() {
 
 // The block decoded, and its largest section number.
 fn show_full() {
-    let mut block = [0u8; BLOCK_CAPACITY];
+    let mut block = block_buffer();
     write_full(&mut block);
     show(b"sections", first_bytes(&block, FULL_LENGTH), room_of(8, 3));
     run_section(first_bytes(&block, FULL_LENGTH), 0xffff_ffff_ffff_ffff);
@@ -37,7 +38,7 @@ fn show_full() {
 
 // The first so many bytes of the block and the zeros after it, with this first byte.
 fn run_input(label: &[u8], most: usize, first: u8) {
-    let mut block = [0u8; BLOCK_CAPACITY];
+    let mut block = block_buffer();
     write_full(&mut block);
     put_bytes_at(&[first], &mut block, 0);
     run_block(label, first_bytes(&block, most));

@@ -2,7 +2,7 @@
 // bytes and record, its N section the row's with-N byte. The row gives the letters or the refusal;
 // a block is 122 bytes longer than its DNA section. Four more letters and one more end are lent
 // than the longest row wants.
-use crate::block::BLOCK_CAPACITY;
+use crate::block::block_buffer;
 use crate::block::equal_reads;
 use crate::block::write_block;
 use crate::parts::first_bytes;
@@ -77,7 +77,7 @@ fn run_others() {
 
 // A block of one read.
 fn run_row(label: &[u8], size: u32, dna: &[u8], ns: &[u8]) {
-    let mut block = [0u8; BLOCK_CAPACITY];
+    let mut block = block_buffer();
     let length = write_block(equal_reads(1, size, size), dna, b"", ns, &mut block);
     show(label, first_bytes(&block, length), room_of(9, 2));
 }
