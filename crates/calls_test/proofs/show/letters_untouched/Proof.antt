@@ -1,4 +1,5 @@
--- `calls_test::show::letters_untouched` is safe and ends. The measure is how many letters are left. Assumes nothing.
+-- `calls_test::show::letters_untouched` is safe and ends. The measure is how many letters are left.
+-- Assumes nothing.
 use Prim.Native.Nat.{_-_, _≤_}
 use lib.ListN.{length}
 use borrow.Author.Needs.{needs}

@@ -1,4 +1,5 @@
--- `calls_test::show::show_under` is safe: the parts that are lent lie in the arrays. Assumes nothing.
+-- `calls_test::show::show_under` is safe: the parts that are lent lie in the arrays. Assumes
+-- nothing.
 use mathlib.Core.Path.{sym}
 use native.Mathlib.Omega.{arith}
 use lib.Seq.{length-take-le}
@@ -24,7 +25,8 @@ array-borrow-prefix-letters c = search needs
 slice-aggregate-show-lent : tie.Need-slice-aggregate-show-lent
 slice-aggregate-show-lent c =
     let p = c .before .before in
-    sym (length-take-le _ _ (omega (arith, p .before .before .if1 .left, p .untouched-letters .ensures)))
+    let small = p .before .before .if1 .left in
+    sym (length-take-le _ _ (omega (arith, small, p .untouched-letters .ensures)))
 
 array-borrow-prefix-ends : tie.Need-array-borrow-prefix-ends
 array-borrow-prefix-ends c = search needs
@@ -32,7 +34,8 @@ array-borrow-prefix-ends c = search needs
 slice-aggregate-show-lent-2 : tie.Need-slice-aggregate-show-lent-2
 slice-aggregate-show-lent-2 c =
     let p = c .before .before in
-    sym (length-take-le _ _ (omega (arith, p .before .before .if2 .left, p .untouched-ends .ensures)))
+    let small = p .before .before .if2 .left in
+    sym (length-take-le _ _ (omega (arith, small, p .untouched-ends .ensures)))
 
 show-lent-requires : tie.Need-show-lent-requires
 show-lent-requires c κs = search needs
