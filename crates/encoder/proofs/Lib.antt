@@ -1,2 +1,3 @@
 pub mod FaultLaws
-pub mod SectionLaws
+pub mod InputLaws
+pub mod BlockLaws

@@ -15,7 +15,8 @@ ghost use lib.Dec.{eqb};
 ghost use Rattle.base.specs.Lists.{any, member, stepsFrom};
 ghost use Rattle.dna.specs.Reference.{alphabet};
 ghost use Rattle.dna.specs.Sizes.{lengthInvalid};
-ghost use Rattle.encoder.specs.Lent.{lent, lentNumber};
+ghost use Rattle.dna_writer.specs.Lent.{lentNumber};
+ghost use Rattle.format.specs.EncodeAnswer.{lent};
 
 // The most reads that a block may have.
 const MAX_READS: usize = 50_000;

@@ -5,7 +5,7 @@ use borrow.Author.Tests.{lt-ltb, le-ltb}
 use borrow.Author.Needs.{needs}
 use Rattle.base.specs.Answer.{checked}
 use Rattle.format.specs.EncodeAnswer.{encodeFaults, readCountTooLarge, candidateCountWrong, readEndsInvalid, letterInvalid}
-use Rattle.encoder.specs.Lent.{lentNumber}
+use Rattle.dna_writer.specs.Lent.{lentNumber}
 use Rattle.encoder.proofs.faults.lent_fault.Statement.{statement}
 use Rattle.encoder.proofs.faults.lent_fault.Tie as tie
 

@@ -15,7 +15,7 @@ use Rattle.dna.specs.Division.{Piece, divisionBytes, groupBytes}
 use Rattle.format.specs.RuleRecord.{Candidate, Written, written}
 use Rattle.format.specs.RuleBlock.{writtenFrom, writtenGroup, writtenNSection}
 use Rattle.format.specs.EncodeAnswer.{EncodeInput, readsOfInput, candidatesOf}
-use Rattle.encoder.specs.Section.{codesAt, candidateAt, recordsOf, bytesOf, dnaBytes, nBytes}
+use Rattle.dna_writer.specs.Section.{codesAt, candidateAt, recordsOf, bytesOf, dnaBytes, nBytes}
 
 -- ---- Read by read
 
