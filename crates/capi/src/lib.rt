@@ -3,22 +3,31 @@
 // definitions, through specs/Slots.antt, and none has a `requires`.
 use dna::Counts;
 use format::BlockOutcome;
+use format::EncodeOutcome;
 use format::FileOutcome;
 use integers::wide64;
 ghost use mathlib.Core.Path.{_≡_};
 ghost use mathlib.Core.List.{_∷_};
 ghost use lib.ListN.{replicate};
 ghost use Rattle.format.specs.Outcome.{refusal};
-ghost use Rattle.format.specs.Answered.{countedOf, outcomeOfBlock, outcomeOfFile};
+ghost use Rattle.format.specs.Answered.{
+  countedOf,
+  outcomeOfBlock,
+  outcomeOfFile,
+  outcomeOfEncode,
+};
 ghost use Rattle.format.specs.BlockAnswer.{
   spanAnswer,
   idAnswer,
+  lengthAnswer,
   validatedBlock,
   decoded,
   decodedLetters,
   decodedEnds,
 };
 ghost use Rattle.format.specs.FileAnswer.{validated};
+ghost use Rattle.format.specs.EncodeAnswer.{encoded, encodedBuffer};
+ghost use Rattle.format.specs.EncodeAnswer.{lent};
 ghost use Rattle.capi.specs.Slots.{slots, acceptedSlots, sectionSlots};
 
 // Decodes the block at the input's start.
@@ -83,6 +92,54 @@ pub extern "C" fn ora_validate(
     file_number(outcome)
 }
 
+// Writes a block.
+#[no_mangle]
+pub extern "C" fn ora_encode(
+    bases: u64,
+    reference: &[u8],
+    letters: &[u8],
+    ends: &[u32],
+    positions: &[u32],
+    strands: &[u8],
+    lefts: &[u8],
+    rights: &[u8],
+    b_id: u64,
+    c_time: u64,
+    out: &mut [u8],
+    answer: &mut [u64; 16],
+) -> u64
+    ensures { λ r. ⌜ (r ≡ encoded bases (now (reference .entry))
+        (lent (now (letters .entry)) (now (ends .entry)) (now (positions .entry))
+        (now (strands .entry)) (now (lefts .entry)) (now (rights .entry)) «b_id» «c_time»)
+        (now (out .entry)) .number)
+        × (now (answer .exit)
+        ≡ slots (encoded bases (now (reference .entry))
+        (lent (now (letters .entry)) (now (ends .entry)) (now (positions .entry))
+        (now (strands .entry)) (now (lefts .entry)) (now (rights .entry)) «b_id» «c_time»)
+        (now (out .entry))))
+        × (now (out .exit)
+        ≡ encodedBuffer bases (now (reference .entry))
+        (lent (now (letters .entry)) (now (ends .entry)) (now (positions .entry))
+        (now (strands .entry)) (now (lefts .entry)) (now (rights .entry)) «b_id» «c_time»)
+        (now (out .entry))) ⌝ }
+{
+    let outcome = ora::encode(
+        bases,
+        reference,
+        letters,
+        ends,
+        positions,
+        strands,
+        lefts,
+        rights,
+        b_id,
+        c_time,
+        out,
+    );
+    *answer = encode_slots(outcome);
+    encode_number(outcome)
+}
+
 // Where a section of the block at the input's start stands; 0, since nothing is refused.
 #[no_mangle]
 pub extern "C" fn ora_section(input: &[u8], number: u64, answer: &mut [u64; 16]) -> u64
@@ -92,6 +149,14 @@ pub extern "C" fn ora_section(input: &[u8], number: u64, answer: &mut [u64; 16])
     let span = ora::section_span(input, number);
     *answer = eight_slots(0, 0, 0, span.offset, span.size, 0, 0, 0);
     0
+}
+
+// The length of the block at the input's start, by its header.
+#[no_mangle]
+pub extern "C" fn ora_block_length(input: &[u8]) -> u64
+    ensures { λ r. ⌜ r ≡ lengthAnswer (now (input .entry)) ⌝ }
+{
+    ora::block_length(input)
 }
 
 // The b_id of the block at the input's start.
@@ -137,6 +202,24 @@ fn file_number(outcome: FileOutcome) -> u64
     match outcome {
         FileOutcome::Accepted(_, _) => 0,
         FileOutcome::Refused(number, _, _) => wide64(number),
+    }
+}
+
+fn encode_slots(outcome: EncodeOutcome) -> [u64; 16]
+    ensures { λ r. ⌜ r ≡ slots (outcomeOfEncode outcome) ⌝ }
+{
+    match outcome {
+        EncodeOutcome::Written(bytes) => eight_slots(0, 0, 0, bytes, 0, 0, 0, 0),
+        EncodeOutcome::Refused(number) => refused_slots(number, 0, 0),
+    }
+}
+
+fn encode_number(outcome: EncodeOutcome) -> u64
+    ensures { λ r. ⌜ r ≡ outcomeOfEncode outcome .number ⌝ }
+{
+    match outcome {
+        EncodeOutcome::Written(_) => 0,
+        EncodeOutcome::Refused(number) => wide64(number),
     }
 }
 

@@ -4,24 +4,33 @@
 // The enums of the answers are put into the paper's terms by specs/Answered.antt there, the struct of
 // this interface by specs/Answers.antt.
 use format::BlockOutcome;
+use format::EncodeOutcome;
 use format::FileOutcome;
 use header::faults::header_fault;
 use header::fields;
 use header::sections;
 ghost use mathlib.Core.Path.{_≡_};
 ghost use lib.Dec.{eqb};
-ghost use Rattle.format.specs.Answered.{outcomeOfBlock, outcomeOfFile, acceptsFile};
+ghost use Rattle.format.specs.Answered.{
+  outcomeOfBlock,
+  outcomeOfFile,
+  acceptsFile,
+  outcomeOfEncode,
+};
 ghost use Rattle.format.specs.BlockAnswer.{
   sectionAnswer,
   spanAnswer,
   idAnswer,
+  lengthAnswer,
   validatedBlock,
   decoded,
   decodedLetters,
   decodedEnds,
 };
 ghost use Rattle.format.specs.FileAnswer.{validated};
+ghost use Rattle.format.specs.EncodeAnswer.{encoded, encodedBuffer};
 ghost use Rattle.header.specs.Part.{BeginsAt};
+ghost use Rattle.format.specs.EncodeAnswer.{lent};
 ghost use Rattle.ora.specs.Answers.{spanOf};
 
 // ---- Reading
@@ -68,6 +77,51 @@ pub fn validate(bases: u64, reference: &[u8], file: &[u8]) -> FileOutcome
     files::validate(bases, reference, file)
 }
 
+// ---- Writing
+
+// Writes the block that the fixed rule makes of these reads to the start of `out`, with 1 and 30 to
+// 34: its length in bytes, or the refusal. Letters and ends are as decode gives them; the other four
+// are proposals, one element a read. The input of these slices is `lent` (specs/Lent.antt of
+// dna_writer). What lies past the block stays; a refusal changes nothing.
+pub fn encode(
+    bases: u64,
+    reference: &[u8],
+    letters: &[u8],
+    ends: &[u32],
+    positions: &[u32],
+    strands: &[u8],
+    lefts: &[u8],
+    rights: &[u8],
+    b_id: u64,
+    c_time: u64,
+    out: &mut [u8],
+) -> EncodeOutcome
+    ensures { λ r. ⌜ (outcomeOfEncode r
+        ≡ encoded bases (now (reference .entry))
+        (lent (now (letters .entry)) (now (ends .entry)) (now (positions .entry))
+        (now (strands .entry)) (now (lefts .entry)) (now (rights .entry)) «b_id» «c_time»)
+        (now (out .entry)))
+        × (now (out .exit)
+        ≡ encodedBuffer bases (now (reference .entry))
+        (lent (now (letters .entry)) (now (ends .entry)) (now (positions .entry))
+        (now (strands .entry)) (now (lefts .entry)) (now (rights .entry)) «b_id» «c_time»)
+        (now (out .entry))) ⌝ }
+{
+    encoder::encode(
+        bases,
+        reference,
+        letters,
+        ends,
+        positions,
+        strands,
+        lefts,
+        rights,
+        b_id,
+        c_time,
+        out,
+    )
+}
+
 // ---- Looking into a block
 
 // Where a section stands in the block, in bytes.
@@ -94,6 +148,17 @@ pub fn section_span(input: &[u8], number: u64) -> Span
         offset: span.offset as u64,
         size: span.size as u64,
     }
+}
+
+// The block's length by its header, with which a file is cut into blocks before they are judged; 0 if
+// the header earns one of 2 to 8.
+pub fn block_length(input: &[u8]) -> u64
+    ensures { λ r. ⌜ r ≡ lengthAnswer (now (input .entry)) ⌝ }
+{
+    if header_fault(input) != 0 {
+        return 0;
+    }
+    sections::block_length(input) as u64
 }
 
 // The block's b_id; 0 if the header earns one of 2 to 8.
