@@ -4,6 +4,7 @@ use crate::reading::run_decode;
 use crate::reading::run_validate;
 use crate::reading::run_validate_block;
 use crate::sections::run_sections;
+use crate::writing::run_encode;
 use cases::case_file::CaseHeader;
 use cases::case_file::input_part;
 
@@ -17,6 +18,8 @@ const VALIDATE_BLOCK_KIND: u8 = 4;
 
 const VALIDATE_KIND: u8 = 5;
 
+const ENCODE_KIND: u8 = 6;
+
 // Runs a case by its kind; false where there is no such kind.
 pub fn run_kind(index: u32, bytes: &[u8], header: CaseHeader) -> bool {
     let kind = header.kind;
@@ -28,6 +31,9 @@ pub fn run_kind(index: u32, bytes: &[u8], header: CaseHeader) -> bool {
     if kind == LENGTHS_KIND {
         run_lengths(index, input);
         return true;
+    }
+    if kind == ENCODE_KIND {
+        return run_encode(index, bytes, header);
     }
     run_reading(index, bytes, header)
 }

@@ -7,6 +7,7 @@ mod outcomes;
 mod read_lengths;
 mod reading;
 mod sections;
+mod writing;
 
 fn main() {
     case_files::run_file(b"sections.bin");
@@ -14,5 +15,7 @@ fn main() {
     case_files::run_file(b"decode.bin");
     case_files::run_file(b"validate_block.bin");
     case_files::run_file(b"validate.bin");
+    case_files::run_file(b"encode.bin");
     case_files::run_file(b"decode_large.bin");
+    case_files::run_file(b"encode_large.bin");
 }

@@ -3,6 +3,7 @@
 use crate::lines::put_column;
 use dna::Counts;
 use format::BlockOutcome;
+use format::EncodeOutcome;
 use format::FileOutcome;
 use integers::wide64;
 
@@ -22,15 +23,26 @@ pub fn put_file_outcome(outcome: FileOutcome) {
     }
 }
 
+// The columns of an answer of the writer, which counts nothing.
+pub fn put_encode_outcome(outcome: EncodeOutcome) {
+    match outcome {
+        EncodeOutcome::Written(bytes) => put_columns(0, 0, 0, 0, bytes, no_counts()),
+        EncodeOutcome::Refused(number) => put_refusal(number, 0, 0),
+    }
+}
+
 // The columns of a refusal: all but its number and its indices are 0.
 pub fn put_refusal(number: u32, block: u64, read: u64) {
-    let counts = Counts {
+    put_columns(number, block, read, 0, 0, no_counts());
+}
+
+fn no_counts() -> Counts {
+    Counts {
         reads: 0,
         letters: 0,
         entries: 0,
         differences: 0,
-    };
-    put_columns(number, block, read, 0, 0, counts);
+    }
 }
 
 fn put_columns(number: u32, block: u64, read: u64, blocks: u64, bytes: u64, counts: Counts) {

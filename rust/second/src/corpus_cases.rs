@@ -19,8 +19,16 @@ pub fn corpus() -> Vec<CaseFile> {
 
 /// The case files that the program `corpus` runs. Adding a name here moves its
 /// text into the program's expected output.
-pub const RUN: [&str; 6] =
-    ["sections", "lengths", "decode", "validate_block", "validate", "decode_large"];
+pub const RUN: [&str; 8] = [
+    "sections",
+    "lengths",
+    "decode",
+    "validate_block",
+    "validate",
+    "encode",
+    "decode_large",
+    "encode_large",
+];
 
 /// The corpus as files of the program's crate, by their paths in it. In `data`
 /// stand all case files, and beside them the texts of those that are not run;
