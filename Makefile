@@ -1,5 +1,6 @@
 # make run: lists the shipped sample. make test: the gate; it needs only the Rattle toolchain.
-# make trace: every path and name in docs/TRACE.md is in the tree; it needs only a shell and awk.
+# make trace: every path and name in docs/TRACE.md is in the tree, and include/ora.h has the functions and refusals of
+# the crates; it needs only a shell and awk.
 # make second: make trace, and the tests of the second implementation; it needs cargo.
 # make corpus: makes its cases in crates/corpus again (rust/second/CORPUS.md); it needs cargo.
 # make bench: measures whole blocks, the writers of a stretch, the walk over the lengths and the encoder of a size
@@ -23,6 +24,7 @@ test:
 
 trace:
 	@sh docs/check_trace.sh
+	@sh include/check_header.sh
 
 second corpus bench compare compare-valgrind sample: export CARGO_TARGET_DIR ?= $(CURDIR)/target/cargo
 second: trace

@@ -1,6 +1,8 @@
 /*
  * ora.h: reads and writes opened ORA blocks, as docs/FORMAT.md describes them.
  *
+ * The library, target/staticlib/libcapi.a, is for x86-64.
+ *
  * Every function is safe for any bytes and any lengths, always ends, keeps nothing from one call to
  * the next, and may be called from several threads at once.
  *
@@ -17,9 +19,9 @@
  * a byte, the first in the highest bits; A, C, G, T are 0, 1, 2, 3. Bits past the last base are
  * ignored.
  *
- * Answers. Every function but ora_block_id fills all sixteen slots of `answer` and returns slot 0,
- * which is 0 where the call accepts and the number of a refusal otherwise. In a refusal the slots
- * from 3 on are 0.
+ * Answers. Every function but ora_block_length and ora_block_id fills all sixteen slots of `answer`
+ * and returns slot 0, which is 0 where the call accepts and the number of a refusal otherwise. In a
+ * refusal the slots from 3 on are 0.
  *
  *   slot  ora_decode,          ora_validate        ora_encode          ora_section
  *         ora_validate_block
@@ -110,7 +112,7 @@ enum ora_refusal {
 
     /* Reading, the lengths and the N section: 9 to 11. */
 
-    /* The size section or l_read gives no lengths, or one that is not 1 to 100,000. */
+    /* Header and size section give no list of lengths, each of 1 to 100,000 letters. */
     ORA_LENGTHS_INVALID = 9,
     /* The raw DNA size is not the sum of the lengths. */
     ORA_DNA_SIZE_WRONG = 10,
@@ -184,7 +186,7 @@ uint64_t ora_validate_block(uint64_t bases, const uint8_t *reference, size_t ref
                             uint64_t answer[ORA_ANSWER_SLOTS]);
 
 /*
- * Judges a file, block after block up to its last byte. The empty file is accepted, unless the
+ * Judges a file, block after block, up to the first refusal or the last byte. The empty file is accepted, unless the
  * reference is refused: so a call with an empty file judges the reference alone.
  *
  * Refusals 1 to 21, with the index of the refused block. Answer: number of blocks, and the sums of
@@ -195,7 +197,8 @@ uint64_t ora_validate(uint64_t bases, const uint8_t *reference, size_t reference
                       uint64_t answer[ORA_ANSWER_SLOTS]);
 
 /*
- * Writes the one block that the fixed rule makes of these reads to the start of `out`.
+ * Writes the one block that the fixed rule (docs/FORMAT.md, Canonical encoding) makes of these
+ * reads to the start of `out`.
  *
  * `letters` and `ends` are the reads, as ora_decode gives them; ends_len is their number. The other
  * four have one element for each read, the place that an aligner proposes for it: `positions` the
@@ -204,7 +207,8 @@ uint64_t ora_validate(uint64_t bases, const uint8_t *reference, size_t reference
  * refused: where it cannot be used, the read is written without a place. The block reads back as
  * these letters and ends, whatever the proposals.
  *
- * A block takes at most 121 + letters_len / 2 + 256 * ends_len bytes.
+ * A block takes at most 121 + letters_len / 2 + 256 * ends_len bytes; this one sentence is held by
+ * tests and not by proof.
  *
  * Refusals 1 and 30 to 34. Answer: length of the block in bytes.
  */
@@ -228,6 +232,13 @@ uint64_t ora_encode(uint64_t bases, const uint8_t *reference, size_t reference_l
  */
 uint64_t ora_section(const uint8_t *input, size_t input_len, uint64_t number,
                      uint64_t answer[ORA_ANSWER_SLOTS]);
+
+/*
+ * The length in bytes of the block at the start of input, as its header says; 0 where the header is
+ * refused with one of 2 to 8. No other refusal plays a part: with it a file is cut into its blocks
+ * before they are judged.
+ */
+uint64_t ora_block_length(const uint8_t *input, size_t input_len);
 
 /* The b_id of the block at the start of input; 0 where its header is refused with one of 2 to 8. */
 uint64_t ora_block_id(const uint8_t *input, size_t input_len);

@@ -27,7 +27,7 @@ pub enum Work {
     Writing(Writing),
 }
 
-/// An input for decode, validate_block, validate, section and block_id.
+/// An input for decode, validate_block, validate, section, block_length and block_id.
 #[derive(Clone)]
 pub struct Reading {
     pub bases: u64,

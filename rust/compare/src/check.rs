@@ -51,6 +51,8 @@ fn check_reading(
     }
     let (own, other) = (library.block_id(input), Second.block_id(input));
     compare("block_id", "b_id", &own, &other)?;
+    let (own, other) = (library.block_length(input), Second.block_length(input));
+    compare("block_length", "length", &own, &other)?;
 
     tally.answer(Call::ValidateBlock, judged[0]);
     tally.answer(Call::Validate, file[0]);

@@ -40,6 +40,8 @@ pub trait Library: Sync {
 
     fn section(&self, input: &[u8], number: u64, answer: &mut Answer) -> u64;
 
+    fn block_length(&self, input: &[u8]) -> u64;
+
     fn block_id(&self, input: &[u8]) -> u64;
 }
 
@@ -79,6 +81,10 @@ impl Library for Linked {
 
     fn section(&self, input: &[u8], number: u64, answer: &mut Answer) -> u64 {
         raw::section(input, number, answer)
+    }
+
+    fn block_length(&self, input: &[u8]) -> u64 {
+        raw::block_length(input)
     }
 
     fn block_id(&self, input: &[u8]) -> u64 {
@@ -141,6 +147,10 @@ impl Library for Second {
         *answer = [0; raw::SLOTS];
         answer[3..5].copy_from_slice(&[offset, length]);
         0
+    }
+
+    fn block_length(&self, input: &[u8]) -> u64 {
+        second::block_length(input)
     }
 
     fn block_id(&self, input: &[u8]) -> u64 {

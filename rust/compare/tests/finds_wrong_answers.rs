@@ -23,6 +23,7 @@ struct Wrong {
     encode: Option<SpoilEncode>,
     section: Option<SpoilSection>,
     returned: Option<fn(u64) -> u64>,
+    block_length: Option<fn(u64) -> u64>,
     block_id: Option<fn(u64) -> u64>,
 }
 
@@ -85,6 +86,11 @@ impl Library for Wrong {
             spoil(answer, number);
         }
         self.number(answer[0])
+    }
+
+    fn block_length(&self, input: &[u8]) -> u64 {
+        let length = Linked.block_length(input);
+        self.block_length.map_or(length, |spoil| spoil(length))
     }
 
     fn block_id(&self, input: &[u8]) -> u64 {
@@ -188,6 +194,8 @@ fn returned_numbers() {
     expect(stock, Wrong { returned, ..Wrong::default() }, "decode", "returned number");
     let block_id: Option<fn(u64) -> u64> = Some(|id| id & 0xFFFF_FFFF);
     expect(stock, Wrong { block_id, ..Wrong::default() }, "block_id", "b_id");
+    let block_length: Option<fn(u64) -> u64> = Some(|length| length.min(121));
+    expect(stock, Wrong { block_length, ..Wrong::default() }, "block_length", "length");
 }
 
 /// What is written, what lies past it, and what a refusal leaves.

@@ -3,7 +3,7 @@
 use crate::raw::{self, SLOTS};
 use crate::read::{decode, validate_block, BlockSummary, Decoded};
 use crate::reference::Reference;
-use crate::refusal::{Refusal, RefusalKind};
+use crate::refusal::Refusal;
 use std::ops::Range;
 
 /// The nine sections that follow a header, in their order.
@@ -84,25 +84,17 @@ pub fn block_id(input: &[u8]) -> u64 {
 /// The length in bytes of the block at the start of the input, which its header tells. Refused with
 /// 2 to 8; no other refusal plays a part, and no reference is needed.
 pub fn block_length(input: &[u8]) -> Result<usize, Refusal> {
-    let ends = Section::ALL.map(|section| section_span(input, section).end);
-    match ends.into_iter().max() {
-        // A block ends where its last section does.
-        Some(end) if end > 0 => Ok(end),
-        _ => length_without_sections(input),
+    match raw::block_length(input) {
+        0 => Err(header_refusal(input)),
+        length => Ok(length as usize),
     }
 }
 
-/// The length of a block whose sections are all empty, which is that of its header; or why the
-/// header is refused. With no section there is little to judge, so that a call which judges the
-/// whole block can be asked.
-fn length_without_sections(input: &[u8]) -> Result<usize, Refusal> {
-    let no_bases = Reference::new(0, &[])?;
-    match validate_block(&no_bases, input) {
-        Err(refusal) if refusal.number <= RefusalKind::SectionsTruncated.number() => Err(refusal),
-        Ok(summary) => Ok(summary.length),
-        // The header is right, and l_header, at byte 2, is at least 121 and inside the input.
-        Err(_) => Ok(u32::from_le_bytes([input[2], input[3], input[4], input[5]]) as usize),
-    }
+/// Why the header of the block at the start of the input is refused: the first refusal of a block
+/// that is judged, under any reference that is none itself.
+fn header_refusal(input: &[u8]) -> Refusal {
+    let judged = Reference::new(0, &[]).and_then(|no_bases| validate_block(&no_bases, input));
+    judged.expect_err("a block without a length is refused")
 }
 
 /// The blocks of a file, one after the other, each ending where its header says. No reference is

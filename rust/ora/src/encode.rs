@@ -167,7 +167,8 @@ impl Columns<'_> {
     /// Room for any block of so many reads and letters, in bytes.
     ///
     /// A record takes 1 byte and at most (letters+1)/2, or (letters+3)/4 or 165 and 69 for an N
-    /// list; a length takes at most 8; eight reads share 7 bytes; the header takes 121.
+    /// list; a length takes at most 8; eight reads share 7 bytes; the header takes 121. This bound
+    /// is held by tests and not by proof.
     pub fn room(&self) -> usize {
         121 + self.letters.len() / 2 + 256 * self.ends.len()
     }

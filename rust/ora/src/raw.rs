@@ -77,6 +77,8 @@ mod c {
             answer: *mut u64,
         ) -> u64;
 
+        pub fn ora_block_length(input: *const u8, input_len: usize) -> u64;
+
         pub fn ora_block_id(input: *const u8, input_len: usize) -> u64;
     }
 }
@@ -189,6 +191,12 @@ pub fn section(input: &[u8], number: u64, answer: &mut Answer) -> u64 {
     // SAFETY: pointer and length are those of a slice, and `answer` is borrowed for this call
     // alone.
     unsafe { c::ora_section(input.as_ptr(), input.len(), number, answer.as_mut_ptr()) }
+}
+
+/// `ora_block_length`: the length of the block at the start of the input by its header, or 0.
+pub fn block_length(input: &[u8]) -> u64 {
+    // SAFETY: pointer and length are those of a slice.
+    unsafe { c::ora_block_length(input.as_ptr(), input.len()) }
 }
 
 /// `ora_block_id`: the b_id of the block at the start of the input, or 0.

@@ -55,7 +55,7 @@ refusal_kinds! {
     ReadCountOutOfRange = 7, "n_reads is negative or above 50,000";
     SectionsTruncated = 8, "header and sections are longer than the input";
     LengthsInvalid = 9,
-        "the size section or l_read gives no lengths, or one that is not 1 to 100,000";
+        "header and size section give no list of lengths, each of 1 to 100,000 letters";
     DnaSizeWrong = 10, "the raw DNA size is not the sum of the lengths";
     NSectionWrong = 11,
         "the N section has not one bit a read, or its byte is not the with-N byte of its group";

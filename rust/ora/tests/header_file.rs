@@ -78,7 +78,7 @@ fn functions() {
         source.split("pub fn ora_").skip(1).map(|text| signature(text, rust_argument)).collect();
     let in_header: Vec<(String, Vec<String>)> =
         HEADER.split("uint64_t ora_").skip(1).map(|text| signature(text, c_argument)).collect();
-    assert_eq!(in_header.len(), 6);
+    assert_eq!(in_header.len(), 7);
     assert_eq!(in_header, declared);
 }
 

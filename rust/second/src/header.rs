@@ -144,6 +144,11 @@ pub fn section_span(input: &[u8], number: u64) -> (u64, u64) {
     }
 }
 
+/// The length of the block where the header earns none of 2 to 8, else 0.
+pub fn block_length(input: &[u8]) -> u64 {
+    Header::read(input).map_or(0, |header| header.block_length())
+}
+
 /// b_id where the header earns none of 2 to 8, else 0.
 pub fn block_id(input: &[u8]) -> u64 {
     Header::read(input).map_or(0, |header| header.b_id)

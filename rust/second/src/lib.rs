@@ -48,6 +48,6 @@ pub mod corpus_cases;
 pub use blocks::{decode, validate_block};
 pub use encoder::encode;
 pub use files::validate;
-pub use header::{block_id, section, section_span};
+pub use header::{block_id, block_length, section, section_span};
 pub use lengths::lengths;
 pub use refusal::*;
