@@ -1,2 +1,4 @@
 pub mod TextLaws
 pub mod PutLaws
+pub mod CutLaws
+pub mod TurnLaws

@@ -2,7 +2,7 @@
 -- feed.
 use Prim.Native.Nat.{ℕ}
 use Prim.Native.String.{String}
-use mathlib.Core.List.{List, _++_}
+use mathlib.Core.List.{List, [], _∷_, _++_}
 use Rattle.dna.specs.Counts.{Counted}
 use Rattle.lines.specs.Text.{text, decimal}
 
@@ -27,6 +27,15 @@ blockLine id counts =
 -- A read is a line of its letters.
 unfoldable pub readLine : (letters : List ℕ) → List ℕ
 readLine letters = letters ++ text "\n"
+
+-- The reads of a block, a line each.
+unfoldable pub readLines : (reads : List (List ℕ)) → List ℕ
+readLines [] = []
+readLines (read ∷ reads) = readLine read ++ readLines reads
+
+-- The text of a block: its line, then its reads.
+unfoldable pub blockText : (id : ℕ) (counts : Counted) (reads : List (List ℕ)) → List ℕ
+blockText id counts reads = blockLine id counts ++ readLines reads
 
 -- The last line of a file that is accepted: the number of its blocks.
 unfoldable pub endLine : (blocks : ℕ) → List ℕ

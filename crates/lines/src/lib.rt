@@ -1,5 +1,8 @@
 // The lines of a listing, written into a lent buffer. The contracts cite specs/Lines.antt; every
 // `requires` asks for room.
+pub mod block_text;
+pub mod turns;
+
 use dna::Counts;
 ghost use mathlib.Core.Path.{_≡_};
 ghost use Prim.Native.Nat.{_+_, _≤_};
@@ -58,7 +61,7 @@ pub fn put_block_line(id: u64, counts: Counts, out: &mut [u8], at: usize) -> usi
     requires { ⌜ at + lineRoom ≤ length (now out) ⌝ }
     ensures { λ r. ⌜ (now (out .exit)
         ≡ pasted (now (out .entry)) at (blockLine id (countedOf counts)))
-        × (r ≡ at + length (blockLine id (countedOf counts))) ⌝ }
+        × (r ≡ at + length (blockLine id (countedOf counts))) × (r ≤ at + lineRoom) ⌝ }
 {
     let reads = put_labelled(b"block ", id, out, at);
     let letters = put_labelled(b" reads ", counts.reads, out, reads);
@@ -83,7 +86,7 @@ pub fn put_read_line(letters: &[u8], out: &mut [u8], at: usize) -> usize
 pub fn put_end_line(blocks: u64, out: &mut [u8], at: usize) -> usize
     requires { ⌜ at + lineRoom ≤ length (now out) ⌝ }
     ensures { λ r. ⌜ (now (out .exit) ≡ pasted (now (out .entry)) at (endLine blocks))
-        × (r ≡ at + length (endLine blocks)) ⌝ }
+        × (r ≡ at + length (endLine blocks)) × (r ≤ at + lineRoom) ⌝ }
 {
     let end = put_labelled(b"end blocks ", blocks, out, at);
     put_text(b"\n", out, end)
@@ -94,7 +97,7 @@ pub fn put_refused_line(number: u32, block: u64, read: u64, out: &mut [u8], at: 
     requires { ⌜ at + lineRoom ≤ length (now out) ⌝ }
     ensures { λ r. ⌜ (now (out .exit)
         ≡ pasted (now (out .entry)) at (refusedLine number block read))
-        × (r ≡ at + length (refusedLine number block read)) ⌝ }
+        × (r ≡ at + length (refusedLine number block read)) × (r ≤ at + lineRoom) ⌝ }
 {
     let second = put_labelled(b"refused ", number as u64, out, at);
     let third = put_labelled(b" ", block, out, second);

@@ -66,7 +66,8 @@ returns c =
     (p3 .result) (p4 .result) three (omega (arith, start .pre, p1 .ensures .2, p2 .ensures .2, p3 .ensures .2)) (p4 .ensures .0, p4 .ensures .1) in
     let five = put-next (a .out .now) (a .at) _ (labelled " differences " (a .counts .differences)) _ _
     (p4 .result) (p5 .result) four (omega (arith, start .pre, p1 .ensures .2, p2 .ensures .2, p3 .ensures .2, p4 .ensures .2)) (p5 .ensures .0, p5 .ensures .1) in
-    put-next (a .out .now) (a .at) _ (text "\n") _ _ (p5 .result) (p6 .result) five (omega (arith, start .pre, p1 .ensures .2, p2 .ensures .2, p3 .ensures .2, p4 .ensures .2, p5 .ensures .2)) (p6 .ensures)
+    let put = put-next (a .out .now) (a .at) _ (text "\n") _ _ (p5 .result) (p6 .result) five (omega (arith, start .pre, p1 .ensures .2, p2 .ensures .2, p3 .ensures .2, p4 .ensures .2, p5 .ensures .2)) (p6 .ensures) in
+    (put .0, put .1, omega (arith, p1 .ensures .2, p2 .ensures .2, p3 .ensures .2, p4 .ensures .2, p5 .ensures .2, p6 .ensures .1))
 
 pub put-block-line-spec : {M : Type 1} → statement M
 put-block-line-spec =

@@ -29,8 +29,9 @@ returns c =
     let a = c .before .before .before .before .before .before .before .before .before .before .before .args in
     let p1 = c .before .before .before .before .before .before .before .put-labelled in
     let p2 = c .before .before .put-text in
-    put-next (a .out .now) (a .at) (labelled "end blocks " (a .blocks)) (text "\n") _ _ (p1 .result) (p2 .result)
-    (p1 .ensures .0, p1 .ensures .1) (omega arith) (p2 .ensures)
+    let put = put-next (a .out .now) (a .at) (labelled "end blocks " (a .blocks)) (text "\n") _ _ (p1 .result) (p2 .result)
+    (p1 .ensures .0, p1 .ensures .1) (omega arith) (p2 .ensures) in
+    (put .0, put .1, omega (arith, p1 .ensures .2, p2 .ensures .1))
 
 pub put-end-line-spec : {M : Type 1} → statement M
 put-end-line-spec =

@@ -49,7 +49,8 @@ returns c =
     (p2 .ensures .0, p2 .ensures .1) in
     let three = put-next (a .out .now) (a .at) _ (labelled " " (a .read)) _ _ (p2 .result) (p3 .result) two (omega (arith, start .pre, p1 .ensures .2, p2 .ensures .2))
     (p3 .ensures .0, p3 .ensures .1) in
-    put-next (a .out .now) (a .at) _ (text "\n") _ _ (p3 .result) (p4 .result) three (omega (arith, start .pre, p1 .ensures .2, p2 .ensures .2, p3 .ensures .2)) (p4 .ensures)
+    let put = put-next (a .out .now) (a .at) _ (text "\n") _ _ (p3 .result) (p4 .result) three (omega (arith, start .pre, p1 .ensures .2, p2 .ensures .2, p3 .ensures .2)) (p4 .ensures) in
+    (put .0, put .1, omega (arith, p1 .ensures .2, p2 .ensures .2, p3 .ensures .2, p4 .ensures .1))
 
 pub put-refused-line-spec : {M : Type 1} → statement M
 put-refused-line-spec =

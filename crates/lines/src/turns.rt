@@ -1,0 +1,92 @@
+// One turn of a listing: the block at the start of a window. The contracts cite specs/Listing.antt;
+// every `requires` says what is lent.
+use crate::block_text::put_block;
+use crate::put_refused_line;
+use format::BlockOutcome;
+use integers::size64;
+use integers::u64_at;
+use reference::reference_size_wrong;
+ghost use mathlib.Core.Path.{_≡_};
+ghost use Prim.Native.Nat.{_+_, _≤_};
+ghost use lib.ListN.{length};
+ghost use Rattle.base.specs.Paste.{pasted};
+ghost use Rattle.lines.specs.Listing.{
+  lettersLent,
+  endsLent,
+  textRoom,
+  referenceRefused,
+  turnText,
+  turnMove,
+};
+
+// 32 KiB: the most bytes of a reference file, and of a block.
+pub const MAX_BYTES: usize = 32_768;
+
+pub const LETTERS_LENT: usize = 32_768;
+
+pub const ENDS_LENT: usize = 4_096;
+
+// A block line of 145 bytes, the letters, and the end of each read's line.
+pub const TEXT_ROOM: usize = 37_009;
+
+// What a turn gave: the length of its text, and how far the window moves; 0 after a refusal.
+pub struct Turn {
+    pub size: usize,
+    pub moved: usize,
+}
+
+// Whether the reference file gets 1.
+pub fn reference_refused(file: &[u8]) -> bool
+    ensures { λ r. ⌜ r ≡ referenceRefused (now (file .entry)) ⌝ }
+{
+    if file.len() < 8 {
+        return true;
+    }
+    if MAX_BYTES < file.len() {
+        return true;
+    }
+    reference_size_wrong(u64_at(file, 0), &file[8..])
+}
+
+// Decodes the block at the window's start and writes its text, or its refusal, at the start of
+// `text`. `block` is its index in the file.
+pub fn list_block(
+    bases: u64,
+    reference: &[u8],
+    window: &[u8],
+    block: u64,
+    letters: &mut [u8],
+    ends: &mut [u32],
+    text: &mut [u8],
+) -> Turn
+    requires { ⌜ length (now letters) ≡ lettersLent ⌝ }
+    requires { ⌜ length (now ends) ≡ endsLent ⌝ }
+    requires { ⌜ textRoom ≤ length (now text) ⌝ }
+    ensures { λ r. ⌜ (now (text .exit)
+        ≡ pasted (now (text .entry)) 0
+        (turnText bases (now (reference .entry)) (now (window .entry)) block))
+        × (r .size ≡ length (turnText bases (now (reference .entry)) (now (window .entry)) block))
+        × (r .moved ≡ turnMove bases (now (reference .entry)) (now (window .entry)))
+        × (r .size ≤ length (now (text .entry)))
+        × (r .moved ≤ length (now (window .entry))) ⌝ }
+{
+    let id = ora::block_id(window);
+    let outcome = ora::decode(bases, reference, window, letters, ends);
+    match outcome {
+        BlockOutcome::Refused(number, read) => {
+            let size = put_refused_line(number, block, read, text, 0);
+            return Turn {
+                size: size,
+                moved: 0,
+            };
+        }
+        BlockOutcome::Accepted(bytes, counts) => {
+            let reads = size64(counts.reads);
+            let size = put_block(id, counts, letters, &ends[..reads], text);
+            return Turn {
+                size: size,
+                moved: size64(bytes),
+            };
+        }
+    }
+}
