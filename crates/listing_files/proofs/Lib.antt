@@ -1,0 +1,2 @@
+pub mod SlideLaws
+pub mod ReferenceLaws
