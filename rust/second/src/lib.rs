@@ -45,6 +45,8 @@ pub mod cases_encoding;
 
 pub mod corpus_cases;
 
+pub mod listing_cases;
+
 pub use blocks::{decode, validate_block};
 pub use encoder::encode;
 pub use files::validate;

@@ -1,13 +1,18 @@
 //! 01, "Sums done by hand": the listing program's text. The reference file is
-//! "G in 8 bytes, then its bytes ...; one under 8 bytes gets 1"; it "lends
-//! 32,768 letters and 4,096 ends". "A block line starts with b_id; a refusal
-//! prints `refused`, number, block index and read index as its last line."
+//! "G in 8 bytes, then its bytes; 32 KiB in all at most; one under 8 bytes
+//! gets 1"; blocks are "each up to 32 KiB", and it "lends 32,768 letters and
+//! 4,096 ends". "A block line starts with b_id; a refusal prints `refused`,
+//! number, block index and read index as its last line."
 
 use crate::blocks::decode;
 use crate::header::block_id;
 use crate::reference::Reference;
 use crate::refusal::*;
 
+/// 32 KiB.
+pub const MAX_REFERENCE_FILE: usize = 32_768;
+/// A block is read with so many bytes as its input, or what is left.
+pub const WINDOW: usize = 32_768;
 pub const LETTERS_LENT: usize = 32_768;
 pub const ENDS_LENT: usize = 4_096;
 
@@ -21,7 +26,7 @@ pub fn listing(reference_file: &[u8], file: &[u8]) -> String {
 }
 
 fn list(reference_file: &[u8], file: &[u8], text: &mut String) -> Result<(), Refusal> {
-    if reference_file.len() < 8 {
+    if reference_file.len() < 8 || reference_file.len() > MAX_REFERENCE_FILE {
         return Err(Refusal::of_block(REFERENCE_SIZE_WRONG));
     }
     let (bases, bytes) = reference_file.split_at(8);
@@ -31,13 +36,14 @@ fn list(reference_file: &[u8], file: &[u8], text: &mut String) -> Result<(), Ref
     let mut rest = file;
     let mut blocks = 0;
     while !rest.is_empty() {
+        let window = &rest[..rest.len().min(WINDOW)];
         let mut letters = vec![0; LETTERS_LENT];
         let mut ends = vec![0; ENDS_LENT];
-        let outcome = decode(bases, bytes, rest, &mut letters, &mut ends);
+        let outcome = decode(bases, bytes, window, &mut letters, &mut ends);
         if outcome.number != 0 {
             return Err(Refusal::at_read(outcome.number, outcome.read).in_block(blocks));
         }
-        list_block(&outcome, block_id(rest), &letters, &ends, text);
+        list_block(&outcome, block_id(window), &letters, &ends, text);
         rest = &rest[outcome.length as usize..];
         blocks += 1;
     }

@@ -2,6 +2,7 @@
 //! 2, and `make_corpus` writes whole files, the same each time. Catches: half
 //! a corpus left behind, a file mistaken for a directory.
 
+use second::corpus_cases::corpus;
 use std::fs;
 use std::path::{Path, PathBuf};
 use std::process::{Command, Output};
@@ -9,6 +10,7 @@ use std::process::{Command, Output};
 const MAKE: &str = env!("CARGO_BIN_EXE_make_corpus");
 const SHOW: &str = env!("CARGO_BIN_EXE_show_corpus");
 const LIST: &str = env!("CARGO_BIN_EXE_list_reads");
+const MAKE_LISTING: &str = env!("CARGO_BIN_EXE_make_listing");
 
 fn run(program: &str, arguments: &[&str]) -> Output {
     Command::new(program).args(arguments).output().unwrap()
@@ -32,12 +34,13 @@ fn directory(name: &str) -> PathBuf {
 fn wrong_arguments() {
     let missing = directory("wrong_arguments").join("missing");
     let missing = missing.to_str().unwrap();
-    for program in [MAKE, SHOW, LIST] {
+    for program in [MAKE, SHOW, LIST, MAKE_LISTING] {
         assert_usage(program, &[]);
         assert_usage(program, &["a", "b", "c"]);
     }
     assert_usage(MAKE, &[missing]);
     assert_usage(MAKE, &[MAKE]);
+    assert_usage(MAKE_LISTING, &[missing]);
     assert_usage(SHOW, &[missing]);
     assert_usage(LIST, &[missing, missing]);
     // Not a case file: status 1.
@@ -83,6 +86,6 @@ fn showing_gives_the_expected_text() {
     let shown = run(SHOW, &[data.join("validate.bin").to_str().unwrap()]).stdout;
     let shown = String::from_utf8(shown).unwrap();
     let lines: Vec<&str> = shown.lines().filter(|line| !line.starts_with("# ")).collect();
-    let text = fs::read_to_string(data.join("validate.txt")).unwrap();
-    assert_eq!(lines, text.lines().collect::<Vec<_>>());
+    let made = corpus().into_iter().find(|file| file.name == "validate").unwrap();
+    assert_eq!(lines, made.text().lines().collect::<Vec<_>>());
 }

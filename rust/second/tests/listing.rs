@@ -1,10 +1,11 @@
 //! Property: the listing program's text for 01's example block of 132 bytes,
 //! and its refusals. Catches: a block line in another form, a refusal that is
-//! not the last line, a short reference file taken as an empty one.
+//! not the last line, a short reference file taken as an empty one, a block
+//! read past the window.
 
 mod common;
 use common::*;
-use second::listing::listing;
+use second::listing::{listing, ENDS_LENT, LETTERS_LENT, MAX_REFERENCE_FILE, WINDOW};
 
 fn reference_file() -> Vec<u8> {
     [&BASES.to_le_bytes()[..], &REFERENCE].concat()
@@ -44,4 +45,52 @@ fn a_short_reference_file_gets_1() {
     assert_eq!(listing(&[0; 7], &example()), "refused 1 0 0\n");
     assert_eq!(listing(&[12, 0, 0, 0, 0, 0, 0, 0, 0x1B], &[]), "refused 1 0 0\n");
     assert_eq!(listing(&[0; 8], &[]), "end blocks 0\n");
+}
+
+#[test]
+fn a_large_reference_file_gets_1() {
+    let of_bytes = |bytes: usize| [&(bytes as u64 * 4).to_le_bytes()[..], &vec![0; bytes]].concat();
+    assert_eq!(listing(&of_bytes(MAX_REFERENCE_FILE - 8), &[]), "end blocks 0\n");
+    assert_eq!(listing(&of_bytes(MAX_REFERENCE_FILE - 7), &[]), "refused 1 0 0\n");
+}
+
+/// The example with so many bytes in all: the last section has the rest.
+fn filled_up(length: usize) -> Vec<u8> {
+    let mut block = example();
+    let m3 = (length - block.len()) as u32;
+    block[38..42].copy_from_slice(&m3.to_le_bytes());
+    block.resize(length, 0);
+    block
+}
+
+#[test]
+fn a_block_past_the_window_gets_8() {
+    let file = [filled_up(WINDOW), example()].concat();
+    assert_eq!(listing(&reference_file(), &file), format!("{LINES}{LINES}end blocks 2\n"));
+    let file = [example(), filled_up(WINDOW + 1)].concat();
+    assert_eq!(listing(&reference_file(), &file), format!("{LINES}refused 8 1 0\n"));
+    // An earlier number comes first.
+    let mut file = filled_up(WINDOW + 1);
+    file[50..54].copy_from_slice(&(-1i32).to_le_bytes());
+    assert_eq!(listing(&reference_file(), &file), "refused 7 0 0\n");
+}
+
+#[test]
+fn more_than_is_lent_gets_22() {
+    let raw = |length: usize, reads: usize| {
+        let record = [&[2][..], &vec![0; (length + 3) / 4]].concat();
+        let mut dna = Vec::new();
+        for read in 0..reads {
+            if read % 8 == 0 {
+                dna.extend([0; 4]);
+            }
+            dna.extend(&record);
+        }
+        Hand::same(length as i32, reads as i32, &dna, &vec![0; (reads + 7) / 8]).bytes()
+    };
+    let printed = |block: &[u8]| listing(&reference_file(), block);
+    assert!(printed(&raw(LETTERS_LENT, 1)).ends_with("end blocks 1\n"));
+    assert!(printed(&raw(1, ENDS_LENT)).ends_with("end blocks 1\n"));
+    assert_eq!(printed(&raw(LETTERS_LENT + 1, 1)), "refused 22 0 0\n");
+    assert_eq!(printed(&raw(1, ENDS_LENT + 1)), "refused 22 0 0\n");
 }

@@ -1,0 +1,95 @@
+//! Property: the files of the programs `listing` and `listing_cases` are the
+//! ones made, and the program itself, where it is built, prints what the
+//! second implementation does for every file of the corpus. Catches: a sample
+//! gone stale, a listing that differs in a refusal or in a window.
+
+use second::corpus::parse;
+use second::generator::{generate_reference, generate_with_lengths, Shape};
+use second::listing::listing;
+use second::listing_cases::{cases, listing_files, sample};
+use second::prng::Prng;
+use std::path::{Path, PathBuf};
+use std::process::Command;
+
+fn tree() -> PathBuf {
+    Path::new(env!("CARGO_MANIFEST_DIR")).join("../..")
+}
+
+#[test]
+fn the_tree_holds_what_is_made() {
+    for (path, bytes) in listing_files() {
+        let read = std::fs::read(tree().join("crates").join(&path)).unwrap();
+        assert!(read == bytes, "{path} differs: make the listing's files again (make listing)");
+    }
+}
+
+#[test]
+fn the_program_lists_every_case() {
+    let source = std::fs::read_to_string(tree().join("crates/listing_cases/src/main.rt")).unwrap();
+    let mut at = 0;
+    for case in cases() {
+        let line = format!("list_case(b\"{}\");", case.name);
+        at += source[at..].find(&line).expect(case.name);
+    }
+    assert_eq!(source.matches("list_case(b\"").count(), cases().len());
+}
+
+/// All five kinds are met in the sample: a letter N, entries, differences.
+#[test]
+fn the_sample_is_accepted() {
+    let sample = sample();
+    let text = listing(&sample.reference, &sample.blocks);
+    assert!(text.ends_with("end blocks 4\n"));
+}
+
+/// What the program prints, or nothing where it is not built.
+fn printed(name: &str, reference: &[u8], blocks: &[u8]) -> Option<String> {
+    let program = tree().join("target/bin/listing");
+    if !program.is_file() {
+        return None;
+    }
+    let directory = Path::new(env!("CARGO_TARGET_TMPDIR")).join(name);
+    std::fs::create_dir_all(&directory).unwrap();
+    let paths = [directory.join("reference"), directory.join("blocks")];
+    std::fs::write(&paths[0], reference).unwrap();
+    std::fs::write(&paths[1], blocks).unwrap();
+    let output = Command::new(program).args(&paths).output().unwrap();
+    assert!(output.stderr.is_empty(), "{}", String::from_utf8_lossy(&output.stderr));
+    Some(String::from_utf8(output.stdout).unwrap())
+}
+
+#[test]
+fn the_program_prints_the_corpus() {
+    let bytes = std::fs::read(tree().join("crates/corpus/data/validate.bin")).unwrap();
+    let mut compared = 0;
+    for case in parse(&bytes).unwrap() {
+        let reference = [&case.call.bases.to_le_bytes()[..], &case.call.reference].concat();
+        let Some(text) = printed("corpus", &reference, &case.input) else { break };
+        assert_eq!(text, listing(&reference, &case.input), "{}", case.label);
+        compared += 1;
+    }
+    println!("{compared} files of the corpus compared with target/bin/listing");
+}
+
+/// Files of many blocks, past the bytes that the program holds at a time.
+#[test]
+fn the_program_prints_long_files() {
+    let rng = &mut Prng::new(20505);
+    let shape = Shape { bases: 2_000, max_reads: 0, max_length: 300, max_carried: 2_000 };
+    for _ in 0..12 {
+        let reference = generate_reference(rng, shape.bases);
+        let mut blocks = Vec::new();
+        while blocks.len() < 150_000 {
+            let reads = rng.range(0, 60);
+            let lengths = (0..reads).map(|_| rng.range(1, shape.max_length)).collect();
+            blocks.extend(generate_with_lengths(rng, shape, &reference, lengths).block());
+        }
+        if rng.coin() {
+            let cut = rng.range(0, blocks.len() as u64) as usize;
+            blocks.truncate(cut);
+        }
+        let reference = [&reference.bases.to_le_bytes()[..], &reference.bytes].concat();
+        let Some(text) = printed("long", &reference, &blocks) else { break };
+        assert!(text == listing(&reference, &blocks));
+    }
+}
