@@ -1,7 +1,9 @@
-# make run: lists the shipped sample. make test: the gate; it needs only the Rattle toolchain.
+# make run: lists the shipped sample (crates/listing/data). make test: the gate. Both need only the Rattle toolchain.
 # make trace: every path and name in docs/TRACE.md is in the tree, and include/ora.h has the functions and refusals of
 # the crates; it needs only a shell and awk.
-# make second: make trace, and the tests of the second implementation; it needs cargo.
+# make second: make trace, and the tests of the second implementation, which also compare its listings with the
+# program's, target/bin/listing, where make run has built it; it needs cargo.
+# make listing: makes the sample of the listing program and the cases of listing_cases again; it needs cargo.
 # make corpus: makes its cases in crates/corpus again (rust/second/CORPUS.md); it needs cargo.
 # make bench: measures whole blocks, the writers of a stretch, the walk over the lengths and the encoder of a size
 # section (docs/BENCHMARK.md); it needs cargo, and Linux on x86-64. It fails where answers differ, never for a speed.
@@ -14,10 +16,17 @@
 # and four crates, of Debian's packages or the usual registry. make cli-test: its tests.
 # make pipeline: reads of a simulator, mapped, encoded and decoded again; it needs make cli, bwa, minimap2 and samtools.
 # make pipeline-bench: speed and memory of the tool on 2,000,000 reads, beside samtools; it needs the same.
-.PHONY: run test trace second corpus bench library compare compare-valgrind sample cli cli-test pipeline \
+.PHONY: run test trace second listing corpus bench library compare compare-valgrind sample cli cli-test pipeline \
   pipeline-bench
 run:
-	@echo "make run: the listing program is not part of this version yet; 'make test' checks what is" >&2; exit 2
+	@command -v rt >/dev/null 2>&1 \
+	  || { echo "run: the Rattle toolchain is missing: there is no command 'rt' on the PATH" >&2; exit 2; }
+	@rt check listing >&2
+	@if [ "$$(uname -m)" = x86_64 ]; then \
+	  cd crates/listing/data && ../../../target/bin/listing reference blocks | tee ../../../target/log/run.stdout; \
+	else cp target/log/listing.stdout target/log/run.stdout; cat target/log/run.stdout; fi
+	@tail -n 1 target/log/run.stdout | grep -q -E '^(end blocks|refused) ' \
+	  || { echo "run: the listing has no last line" >&2; exit 1; }
 
 test:
 	@bash .ci/run
@@ -26,11 +35,16 @@ trace:
 	@sh docs/check_trace.sh
 	@sh include/check_header.sh
 
-second corpus bench compare compare-valgrind sample: export CARGO_TARGET_DIR ?= $(CURDIR)/target/cargo
+second listing corpus bench compare compare-valgrind sample: export CARGO_TARGET_DIR ?= $(CURDIR)/target/cargo
 second: trace
 	@command -v cargo >/dev/null 2>&1 \
 	  || { echo "second: Rust is missing: there is no command 'cargo' on the PATH" >&2; exit 2; }
 	@cargo test --offline --manifest-path rust/second/Cargo.toml
+
+listing:
+	@command -v cargo >/dev/null 2>&1 \
+	  || { echo "listing: Rust is missing: there is no command 'cargo' on the PATH" >&2; exit 2; }
+	@cargo run --release --quiet --offline --manifest-path rust/second/Cargo.toml --bin make_listing -- crates
 
 corpus:
 	@command -v cargo >/dev/null 2>&1 \
