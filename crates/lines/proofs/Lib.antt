@@ -2,3 +2,4 @@ pub mod TextLaws
 pub mod PutLaws
 pub mod CutLaws
 pub mod TurnLaws
+pub mod ExampleHolds

@@ -2,3 +2,4 @@ pub mod Text
 pub mod Lines
 pub mod Cuts
 pub mod Listing
+pub mod Example
