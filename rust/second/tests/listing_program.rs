@@ -3,11 +3,14 @@
 //! second implementation does for every file of the corpus. Catches: a sample
 //! gone stale, a listing that differs in a refusal or in a window.
 
+use second::blocks::read_block;
 use second::corpus::parse;
 use second::generator::{generate_reference, generate_with_lengths, Shape};
 use second::listing::listing;
 use second::listing_cases::{cases, listing_files, sample};
 use second::prng::Prng;
+use second::records::Kind;
+use second::reference::Reference;
 use std::path::{Path, PathBuf};
 use std::process::Command;
 
@@ -34,12 +37,29 @@ fn the_program_lists_every_case() {
     assert_eq!(source.matches("list_case(b\"").count(), cases().len());
 }
 
-/// All five kinds are met in the sample: a letter N, entries, differences.
 #[test]
-fn the_sample_is_accepted() {
+fn the_sample_has_all_five_kinds() {
     let sample = sample();
     let text = listing(&sample.reference, &sample.blocks);
     assert!(text.ends_with("end blocks 4\n"));
+    let bases = u64::from_le_bytes(sample.reference[..8].try_into().unwrap());
+    let reference = Reference::new(bases, &sample.reference[8..]).unwrap_or_else(|_| panic!());
+    let mut kinds = [0; 5];
+    let mut rest = &sample.blocks[..];
+    while !rest.is_empty() {
+        let block = read_block(&reference, rest).unwrap_or_else(|_| panic!());
+        for record in &block.records {
+            kinds[match record.kind {
+                Kind::Perfect(..) => 0,
+                Kind::Global(..) => 1,
+                Kind::Local(..) => 2,
+                Kind::Raw(..) => 3,
+                Kind::Raw4(..) => 4,
+            }] += 1;
+        }
+        rest = &rest[block.length as usize..];
+    }
+    assert!(kinds.iter().all(|&count| count > 0), "{kinds:?}");
 }
 
 /// What the program prints, or nothing where it is not built.
