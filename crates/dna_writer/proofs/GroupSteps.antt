@@ -116,7 +116,8 @@ four-bytes : (x a b c d : ℕ) → a < 256 → b < 256 → c < 256 → d < 256 �
 unfolding leBytes
 four-bytes x a b c d la lb lc ld is =
     let one : x / 256 ≡ b + 256 * (c + 256 * d) = omega arith in
-    let two : x / 256 / 256 ≡ c + 256 * d = ap (λ (n : ℕ). n / 256) one ∙ upper b (c + 256 * d) lb in
+    let two : x / 256 / 256 ≡ c + 256 * d =
+    ap (λ (n : ℕ). n / 256) one ∙ upper b (c + 256 * d) lb in
     let three : x / 256 / 256 / 256 ≡ d = ap (λ (n : ℕ). n / 256) two ∙ upper c d lc in
     let e₀ : x % 256 ≡ a = omega arith in
     let e₁ : x / 256 % 256 ≡ b = ap (λ (n : ℕ). n % 256) one ∙ lower b (c + 256 * d) lb in

@@ -48,9 +48,10 @@ step-valid : (before end : ℕ) → lengthInvalid (end - before) ≡ false
     → (before < end) × (end ≤ before + maxReadLength)
 unfolding lengthInvalid
 step-valid before end right =
-    let some : end - before ≡ 0 → ⊥ = eqb-false (end - before) 0 (or-neither (eqb (end - before) 0) _ right .0) in
-    let short : end - before ≤ maxReadLength = ltb-false maxReadLength (end - before)
-    (or-neither (eqb (end - before) 0) _ right .1) in
+    let some : end - before ≡ 0 → ⊥ =
+    eqb-false (end - before) 0 (or-neither (eqb (end - before) 0) _ right .0) in
+    let short : end - before ≤ maxReadLength =
+    ltb-false maxReadLength (end - before) (or-neither (eqb (end - before) 0) _ right .1) in
     (omega arith, omega arith)
 
 last-high : (start : ℕ) (ends : List ℕ) → any lengthInvalid (stepsFrom start ends) ≡ false
@@ -95,7 +96,8 @@ module _ (bases : ℕ) (reference : List ℕ) (input : EncodeInput)
       let p31 = or-neither (candidateCountWrong input) _ (p30 .1) in
       let p32 = or-neither (readEndsInvalid input) _ (p31 .1) in
       let p33 = or-neither (letterInvalid input) _ (p32 .1) in
-      let c1 = or-neither (not (eqb (length (input .positions)) (length (input .ends)))) _ (p31 .0) in
+      let c1 = or-neither (not (eqb (length (input .positions)) (length (input .ends)))) _
+      (p31 .0) in
       let c2 = or-neither (not (eqb (length (input .strands)) (length (input .ends)))) _ (c1 .1) in
       let c3 = or-neither (not (eqb (length (input .lefts)) (length (input .ends)))) _ (c2 .1) in
       let ends = or-neither (any lengthInvalid (stepsFrom 0 (input .ends))) _ (p32 .0) in
@@ -122,8 +124,9 @@ module _ (bases : ℕ) (reference : List ℕ) (input : EncodeInput)
       }
 
 -- A read as the code has it.
-pub lies-at : {bases : ℕ} {reference : List ℕ} {input : EncodeInput} → WellLent bases reference input
-    → (i from to : ℕ) → i < length (input .ends) → from ≡ getD (0 ∷ input .ends) i 0
+pub lies-at : {bases : ℕ} {reference : List ℕ} {input : EncodeInput}
+    → WellLent bases reference input → (i from to : ℕ) → i < length (input .ends)
+    → from ≡ getD (0 ∷ input .ends) i 0
     → to ≡ getD (input .ends) i 0 → ReadLies (input .letters) from to
 lies-at {input = input} well i from to inside starts ends =
     subst (λ (t : ℕ). ReadLies (input .letters) from t) (sym ends)

@@ -15,14 +15,15 @@ use Rattle.dna.specs.Division.{Piece, divisionBytes, groupBytes}
 use Rattle.format.specs.RuleRecord.{Candidate, Written, written}
 use Rattle.format.specs.RuleBlock.{writtenFrom, writtenGroup, writtenNSection}
 use Rattle.format.specs.EncodeAnswer.{EncodeInput, readsOfInput, candidatesOf}
-use Rattle.dna_writer.specs.Section.{codesAt, candidateAt, recordsOf, bytesOf, dnaBytes, nBytes}
+use Rattle.dna_writer.specs.Section.{codesAt, candidateAt, bytesOf, dnaBytes, nBytes}
 
 -- ---- Read by read
 
 -- The record of a read after a position, and those after it.
 pub records-step : (bases : ℕ) (reference : List ℕ) (input : EncodeInput) (previous i : ℕ)
     → i < length (input .ends)
-    → writtenFrom bases reference previous (drop i (readsOfInput input)) (drop i (candidatesOf input))
+    → writtenFrom bases reference previous (drop i (readsOfInput input))
+    (drop i (candidatesOf input))
     ≡ written bases reference previous (codesAt input i) (candidateAt input i)
     ∷ writtenFrom bases reference
     (positionAfter
@@ -37,7 +38,8 @@ records-step bases reference input previous i inside =
     let none : Candidate = candidateAt input 0 in
     ap₂ (writtenFrom bases reference previous)
     (drop-cons reads i [] (omega (arith, length-build n (codesAt input)))
-    ∙ ap₂ _∷_ (getD-build n (codesAt input) i [] inside) (ap (λ (k : ℕ). drop k reads) (sym (add-one i))))
+    ∙ ap₂ _∷_ (getD-build n (codesAt input) i [] inside)
+    (ap (λ (k : ℕ). drop k reads) (sym (add-one i))))
     (drop-cons candidates i none (omega (arith, length-build n (candidateAt input)))
     ∙ ap₂ _∷_ (getD-build n (candidateAt input) i none inside)
     (ap (λ (k : ℕ). drop k candidates) (sym (add-one i))))
@@ -46,7 +48,8 @@ records-step bases reference input previous i inside =
 
 pub dna-none : dnaBytes [] ≡ []
 unfolding dnaBytes divisionBytes flatMap
-dna-none = ap (λ (groups : List (List Written)). divisionBytes (map writtenGroup groups)) inGroups-nil
+dna-none =
+    ap (λ (groups : List (List Written)). divisionBytes (map writtenGroup groups)) inGroups-nil
 
 pub dna-groups : (records : List Written) → 0 < length records
     → dnaBytes records
@@ -54,18 +57,21 @@ pub dna-groups : (records : List Written) → 0 < length records
 unfolding dnaBytes divisionBytes flatMap
 dna-groups [] some = absurd (omega arith)
 dna-groups (x ∷ xs) some =
-    ap (λ (groups : List (List Written)). divisionBytes (map writtenGroup groups)) (inGroups-cons x xs)
+    ap (λ (groups : List (List Written)). divisionBytes (map writtenGroup groups))
+    (inGroups-cons x xs)
 
 pub n-none : nBytes [] ≡ []
 unfolding nBytes writtenNSection
-n-none = ap (λ (groups : List (List Written)). writtenNSection (map writtenGroup groups)) inGroups-nil
+n-none =
+    ap (λ (groups : List (List Written)). writtenNSection (map writtenGroup groups)) inGroups-nil
 
 pub n-groups : (records : List Written) → 0 < length records
     → nBytes records ≡ flagByte (λ w. w .context .withN) (take 8 records) ∷ nBytes (drop 8 records)
 unfolding nBytes writtenNSection writtenGroup
 n-groups [] some = absurd (omega arith)
 n-groups (x ∷ xs) some =
-    ap (λ (groups : List (List Written)). writtenNSection (map writtenGroup groups)) (inGroups-cons x xs)
+    ap (λ (groups : List (List Written)). writtenNSection (map writtenGroup groups))
+    (inGroups-cons x xs)
 
 pub length-nBytes : (records : List Written) → length (nBytes records) ≡ groupCount (length records)
 unfolding nBytes writtenNSection
@@ -113,12 +119,15 @@ pub length-dnaBytes : (records : List Written)
     ≡ 4 * groupCount (length records) + length (flatMap bytesOf records)
 unfolding groupCount flatMap
 length-dnaBytes records =
-    by-groups (λ list. length (dnaBytes list) ≡ 4 * ((length list + 7) / 8) + length (flatMap bytesOf list))
+    by-groups
+    (λ list. length (dnaBytes list)
+    ≡ 4 * ((length list + 7) / 8) + length (flatMap bytesOf list))
     (ap length dna-none)
     (λ x xs ih.
     let all : List Written = x ∷ xs in
     let some : 0 < length all = omega arith in
-    let head : length (groupBytes (writtenGroup (take 8 all))) ≡ 4 + length (flatMap bytesOf (take 8 all)) =
+    let head : length (groupBytes (writtenGroup (take 8 all)))
+    ≡ 4 + length (flatMap bytesOf (take 8 all)) =
     ap length (group-bytes (take 8 all)) ∙ omega arith in
     let split : length (dnaBytes all)
     ≡ length (groupBytes (writtenGroup (take 8 all))) + length (dnaBytes (drop 8 all)) =

@@ -6,13 +6,14 @@ use mathlib.Core.List.{List, [], _∷_, _++_}
 use lib.ListN.{length, getD, take, drop, set, length-append, length-set}
 use Rattle.base.specs.Groups.{flagByte}
 use Rattle.base.specs.Paste.{pasted}
-use Rattle.base.proofs.PasteLaws.{pasted-nil, pasted-append, pasted-apart, length-pasted, set-pasted}
-use Rattle.base.proofs.PasteLaws.{getD-pasted-inside}
+use Rattle.base.proofs.PasteLaws.{pasted-nil, pasted-append, pasted-apart, length-pasted}
+use Rattle.base.proofs.PasteLaws.{set-pasted, getD-pasted-inside}
 use Rattle.dna.specs.Division.{groupBytes}
 use Rattle.format.specs.RuleRecord.{Written}
 use Rattle.format.specs.RuleBlock.{writtenGroup}
 use Rattle.dna_writer.specs.Section.{dnaBytes, nBytes}
-use Rattle.dna_writer.proofs.SectionLaws.{dna-none, dna-groups, n-none, n-groups, group-bytes}
+use Rattle.dna_writer.proofs.SectionLaws.{dna-none, dna-groups, n-none, n-groups}
+use Rattle.dna_writer.proofs.SectionLaws.{group-bytes}
 
 -- Writing the sections of the records that are left, the one from `place` on and the other from
 -- `byte` on, makes the buffer `goal`; the first stays below `limit`.

@@ -26,7 +26,7 @@ flagBits context =
     + 65536 * cond (context .withN) 1 0
     + 16777216 * cond (context .incremental) 1 0
 
--- The writer after a record: its place, the position of the nearest read that has one, and the bits.
+-- The writer after a record: its place, the position of the nearest read that has one, and bits.
 unfoldable pub writerAfter : (writer : GroupWriter) (written′ : Written) → GroupWriter
 writerAfter writer written′ =
     record {

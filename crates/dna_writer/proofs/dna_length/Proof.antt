@@ -1,3 +1,4 @@
+-- `dna_writer::dna_length` meets its contract. Assumes nothing.
 use mathlib.Core.Path.{refl}
 use native.Mathlib.Omega.{arith}
 use borrow.Author.Needs.{needs}
@@ -5,12 +6,8 @@ use Rattle.format.specs.EncodeAnswer.{EncodeInput}
 use Rattle.format.specs.EncodeAnswer.{lent}
 use Rattle.dna_writer.proofs.LentLaws.{well-lent}
 use Rattle.dna_writer.proofs.RecordSteps.{section-length}
-use borrow.Author.Needs.{needs}
 use Rattle.dna_writer.proofs.dna_length.Statement.{statement}
 use Rattle.dna_writer.proofs.dna_length.Tie as tie
-use Rattle.dna_writer.proofs.dna_length.Reads as reads
-use Rattle.dna_writer.proofs.dna_length.Lts as lts
-use Rattle.dna_writer.proofs.records_length.Reads as records-length-reads
 
 abbrev input : (c : tie.Start) → EncodeInput
 input c =
@@ -18,25 +15,20 @@ input c =
     lent (a .letters .now) (a .ends .now) (a .positions .now) (a .strands .now) (a .lefts .now)
     (a .rights .now) 0 0
 
--- src/lib.rt:58:9
 slice-aggregate-records-length : tie.Need-slice-aggregate-records-length
 slice-aggregate-records-length c = refl
 
--- src/lib.rt:47:9
 records-length-requires : tie.Need-records-length-requires
 records-length-requires c κs =
     let start = c .before .before .before .before .before .before .before .before in
     (start .pre .0, start .pre .1, start .pre .2, omega arith)
 
--- src/lib.rt:60:6
 add-result : tie.Need-add-result
 add-result c = search needs
 
--- src/lib.rt:60:5
 mul-result : tie.Need-mul-result
 mul-result c = search needs
 
--- src/lib.rt:60:5
 add-result-2 : tie.Need-add-result-2
 add-result-2 c =
     let start = c .before .before .before .before .before .before .before .before .before .before in
@@ -47,12 +39,12 @@ add-result-2 c =
       well-lent (a .bases) (a .reference .now) (input start) (start .pre .0) .few,
     )
 
--- src/lib.rt:25:1
 returns : tie.Need-returns
 returns c =
     let start = c .before .before .before .before .before .before .before .before .before .before in
     let a = start .args in
-    section-length (a .bases) (a .reference .now) (input start) _ (c .before .records-length .ensures .0)
+    section-length (a .bases) (a .reference .now) (input start) _
+    (c .before .records-length .ensures .0)
 
 pub dna-length-spec : {M : Type 1} → statement M
 dna-length-spec =

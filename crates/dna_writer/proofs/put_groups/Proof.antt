@@ -1,11 +1,11 @@
-use mathlib.Core.Path.{_≡_, refl, sym, ap, _∙_}
-use Prim.Native.Nat.{ℕ, _+_, _-_, _≤_, _<_}
+-- `dna_writer::put_groups` meets its contract. The loop's invariant: writing the sections of the
+-- records that are left makes the buffer what it is to be. Assumes nothing.
+use mathlib.Core.Path.{_≡_, refl}
+use Prim.Native.Nat.{ℕ, _-_, _<_}
 use native.Mathlib.Omega.{arith}
-use mathlib.Core.List.{List}
 use lib.ListN.{length}
 use borrow.Author.Needs.{needs}
 use Rattle.base.specs.Paste.{pasted}
-use Rattle.format.specs.RuleRecord.{Written}
 use Rattle.format.specs.EncodeAnswer.{EncodeInput}
 use Rattle.format.specs.EncodeAnswer.{lent}
 use Rattle.dna_writer.specs.Section.{recordsOf, dnaBytes, nBytes}
@@ -13,14 +13,10 @@ use Rattle.dna_writer.specs.Writer.{recordsFrom}
 use Rattle.dna_writer.proofs.LentLaws.{WellLent, well-lent}
 use Rattle.dna_writer.proofs.RecordSteps.{length-records, records-none}
 use Rattle.dna_writer.proofs.SectionSteps.{Writing, writing-start, writing-room}
-use Rattle.dna_writer.proofs.SectionSteps.{byte-inside, bits-inside, one-length, turn-length}
-use Rattle.dna_writer.proofs.SectionSteps.{writing-turn, writing-end}
-use borrow.Author.Needs.{needs}
+use Rattle.dna_writer.proofs.SectionSteps.{byte-inside, bits-inside, one-length}
+use Rattle.dna_writer.proofs.SectionSteps.{turn-length, writing-turn, writing-end}
 use Rattle.dna_writer.proofs.put_groups.Statement.{statement}
 use Rattle.dna_writer.proofs.put_groups.Tie as tie
-use Rattle.dna_writer.proofs.put_groups.Reads as reads
-use Rattle.dna_writer.proofs.put_groups.Lts as lts
-use Rattle.dna_writer.proofs.group.put_group.Reads as put-group-reads
 
 abbrev Inv-loop : tie.InvT-loop
 Inv-loop bases reference letters ends positions strands lefts rights forward-table reverse-table
@@ -64,106 +60,125 @@ left-some c previous first inside =
       length-records (c .args .bases) (c .args .reference .now) (input c) previous first,
     )
 
--- src/lib.rt:222:5
 loop-holds : tie.Need-loop-holds Inv-loop μ-loop
 loop-holds c =
     let start = c .before .before .before .before .before .before .before .before .before in
     let a = start .args in (
-      writing-start (a .out .now) (a .at) (a .n-at) (recordsOf (a .bases) (a .reference .now) (input start))
-          (start .pre .1 .0) (start .pre .1 .1),
+      writing-start (a .out .now) (a .at) (a .n-at)
+          (recordsOf (a .bases) (a .reference .now) (input start)) (start .pre .1 .0)
+          (start .pre .1 .1),
       refl,
       refl,
     )
 
--- src/lib.rt:223:13
 put-group-requires : tie.Need-put-group-requires Inv-loop μ-loop
 put-group-requires c κs =
-    let start = c .before .before .before .before .before .before .before .before .before .before .before .before .before in
-    let l = c .before .before .before .loop in
-    let some = left-some start (l .previous) (l .first) (c .before .before .loop-test .taken) in (
+    let test = c .before .before in
+    let turn = test .before in
+    let start = turn .before .before .before .before .before .before .before .before
+    .before .before in
+    let l = turn .loop in
+    let some = left-some start (l .previous) (l .first) (test .loop-test .taken) in (
       (
         start .pre .0 .0,
         start .pre .0 .1,
         start .pre .0 .2,
         omega (arith, start .pre .0 .3, l .inv .2),
       ),
-      (c .before .before .loop-test .taken, writing-room (l .inv .0) some),
+      (test .loop-test .taken, writing-room (l .inv .0) some),
     )
 
--- src/lib.rt:240:28
 add-out : tie.Need-add-out Inv-loop μ-loop
 add-out c =
-    let start = c .before .before .before .before .before .before .before .before .before .before .before .before .before .before .before .before .before .before in
+    let start = c .before .before .before .before .before .before .before .before .before .before
+    .before .before .before .before .before .before .before .before in
     let l = c .before .before .before .before .before .before .before .before .loop in
-    let some = left-some start (l .previous) (l .first) (c .before .before .before .before .before .before .before .loop-test .taken) in
+    let some = left-some start (l .previous) (l .first) (c .before .before .before .before .before
+    .before .before .loop-test .taken) in
     let inside = bits-inside (l .inv .0) some in
     search needs
 
--- src/lib.rt:240:24
 slice-read-out : tie.Need-slice-read-out Inv-loop μ-loop
 slice-read-out c =
-    let start = c .before .before .before .before .before .before .before .before .before .before .before .before .before .before .before .before .before .before .before in
-    let l = c .before .before .before .before .before .before .before .before .before .loop in
-    let some = left-some start (l .previous) (l .first) (c .before .before .before .before .before .before .before .before .loop-test .taken) in
-    omega (arith, bits-inside (l .inv .0) some, one-length (l .inv .0) some _ (c .before .before .before .before .before .put-group .ensures .0))
+    let put = c .before .before .before .before .before in
+    let test = put .before .before .before in
+    let turn = test .before in
+    let start = turn .before .before .before .before .before .before .before .before
+    .before .before in
+    let l = turn .loop in
+    let some = left-some start (l .previous) (l .first) (test .loop-test .taken) in
+    omega (
+      arith,
+      bits-inside (l .inv .0) some,
+      one-length (l .inv .0) some _ (put .put-group .ensures .0),
+    )
 
--- src/lib.rt:240:9
 slice-write-out : tie.Need-slice-write-out Inv-loop μ-loop
 slice-write-out c =
-    let start = c .before .before .before .before .before .before .before .before .before .before .before .before .before .before .before .before .before .before .before in
-    let l = c .before .before .before .before .before .before .before .before .before .loop in
-    let some = left-some start (l .previous) (l .first) (c .before .before .before .before .before .before .before .before .loop-test .taken) in
-    omega (arith, byte-inside (l .inv .0) some, one-length (l .inv .0) some _ (c .before .before .before .before .before .put-group .ensures .0))
+    let put = c .before .before .before .before .before in
+    let test = put .before .before .before in
+    let turn = test .before in
+    let start = turn .before .before .before .before .before .before .before .before
+    .before .before in
+    let l = turn .loop in
+    let some = left-some start (l .previous) (l .first) (test .loop-test .taken) in
+    omega (
+      arith,
+      byte-inside (l .inv .0) some,
+      one-length (l .inv .0) some _ (put .put-group .ensures .0),
+    )
 
--- src/lib.rt:243:9
 add-n-place : tie.Need-add-n-place Inv-loop μ-loop
 add-n-place c =
-    let start = c .before .before .before .before .before .before .before .before .before .before .before .before .before .before .before .before .before .before .before in
+    let start = c .before .before .before .before .before .before .before .before .before .before
+    .before .before .before .before .before .before .before .before .before in
     let l = c .before .before .before .before .before .before .before .before .before .loop in
-    let some = left-some start (l .previous) (l .first) (c .before .before .before .before .before .before .before .before .loop-test .taken) in
+    let some = left-some start (l .previous) (l .first) (c .before .before .before .before .before
+    .before .before .before .loop-test .taken) in
     let inside = byte-inside (l .inv .0) some in
     search needs
 
--- src/lib.rt:244:9
 add-first : tie.Need-add-first Inv-loop μ-loop
-add-first c = omega (arith, well (c .before .before .before .before .before .before .before .before .before .before .before .before .before .before .before .before .before .before .before) .few, c .before .before .before .before .before .before .before .before .loop-test .taken)
+add-first c =
+    let test = c .before .before .before .before .before .before .before .before in
+    let start = test .before .before .before .before .before .before .before .before
+    .before .before .before in
+    omega (arith, well start .few, test .loop-test .taken)
 
--- src/lib.rt:222:5
 loop-less : tie.Need-loop-less Inv-loop μ-loop
 loop-less c = search needs
 
--- src/lib.rt:222:5
 loop-again : tie.Need-loop-again Inv-loop μ-loop
 loop-again c =
-    let start = c .before .before .before .before .before .before .before .before .before .before .before .before .before .before .before .before .before .before .before in
-    let l = c .before .before .before .before .before .before .before .before .before .loop in
-    let some = left-some start (l .previous) (l .first) (c .before .before .before .before .before .before .before .before .loop-test .taken) in
-    let put = c .before .before .before .before .before .put-group .ensures in (
-      writing-turn (l .inv .0) some _ (put .0) _ _ _ _ refl (put .1) refl (put .2),
-      omega (
-        arith,
-        turn-length (l .inv .0) some _ (put .0) _ refl,
-        l .inv .1,
-      ),
+    let put = c .before .before .before .before .before in
+    let test = put .before .before .before in
+    let turn = test .before in
+    let start = turn .before .before .before .before .before .before .before .before
+    .before .before in
+    let l = turn .loop in
+    let some = left-some start (l .previous) (l .first) (test .loop-test .taken) in
+    let done = put .put-group .ensures in (
+      writing-turn (l .inv .0) some _ (done .0) _ _ _ _ refl (done .1) refl (done .2),
+      omega (arith, turn-length (l .inv .0) some _ (done .0) _ refl, l .inv .1),
       search needs,
     )
 
--- src/lib.rt:181:1
 same-length : tie.Need-same-length Inv-loop μ-loop
 same-length c = search needs
 
--- src/lib.rt:181:1
 same-length-2 : tie.Need-same-length-2 Inv-loop μ-loop
 same-length-2 c = search needs
 
--- src/lib.rt:181:1
 returns : tie.Need-returns Inv-loop μ-loop
 returns c =
-    let start = c .before .before .before .before .before .before .before .before .before .before .before in
+    let turn = c .before in
+    let start = turn .before .before .before .before .before .before .before .before
+    .before .before in
     let a = start .args in
-    let l = c .before .loop in
+    let l = turn .loop in
     writing-end (l .inv .0)
-    (records-none (a .bases) (a .reference .now) (input start) (l .previous) (l .first) (c .loop-test .left))
+    (records-none (a .bases) (a .reference .now) (input start) (l .previous) (l .first)
+    (c .loop-test .left))
 
 pub put-groups-spec : {M : Type 1} → statement M
 put-groups-spec =

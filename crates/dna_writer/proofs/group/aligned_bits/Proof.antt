@@ -1,40 +1,29 @@
-use mathlib.Core.Bool.{Bool, cond}
+-- `dna_writer::group::aligned_bits` meets its contract. Assumes nothing.
+use mathlib.Core.Path.{ap, _∙_}
 use native.Mathlib.Omega.{arith}
-use mathlib.Core.Path.{_≡_, ap, _∙_}
+use mathlib.Core.Bool.{Bool, cond}
 use borrow.Author.Needs.{needs}
 use Rattle.dna_writer.proofs.group.aligned_bits.Statement.{statement}
 use Rattle.dna_writer.proofs.group.aligned_bits.Tie as tie
-use Rattle.dna_writer.proofs.group.aligned_bits.Reads as reads
-use Rattle.dna_writer.proofs.group.aligned_bits.Lts as lts
-use Rattle.dna_writer.proofs.group.bit.Reads as bit-reads
-use Rattle.dna_writer.proofs.group.forward_bit.Reads as forward-bit-reads
-use Rattle.record_writer.proofs.position.step_fits.Reads as step-fits-reads
 
--- src/group.rt:230:11
 forward-bit-requires : tie.Need-forward-bit-requires
 forward-bit-requires c κs = search needs
 
--- src/group.rt:230:5
 mul-result : tie.Need-mul-result
 mul-result c = omega (arith, c .forward-bit .ensures .1)
 
--- src/group.rt:230:48
 step-fits-requires : tie.Need-step-fits-requires
 step-fits-requires c κs = search needs
 
--- src/group.rt:230:44
 bit-requires : tie.Need-bit-requires
 bit-requires c κs = search needs
 
--- src/group.rt:230:33
 mul-result-2 : tie.Need-mul-result-2
 mul-result-2 c = omega (arith, c .bit .ensures .1)
 
--- src/group.rt:230:5
 add-result : tie.Need-add-result
 add-result c = omega (arith, c .before .before .forward-bit .ensures .1, c .bit .ensures .1)
 
--- src/group.rt:225:1
 returns : tie.Need-returns
 returns c = (
   omega (

@@ -1,5 +1,4 @@
 -- `dna_writer::group::forward_bit` meets its contract. Assumes nothing.
-use mathlib.Core.Path.{sym, ap}
 use native.Mathlib.Omega.{arith}
 use borrow.Author.Needs.{needs}
 use Rattle.record_writer.specs.Written.{isForward}

@@ -1,51 +1,40 @@
-use Rattle.record_writer.specs.Written.{positionFor}
+-- `dna_writer::group::position_after` meets its contract. Assumes nothing.
 use borrow.Author.Needs.{needs}
+use Rattle.record_writer.specs.Written.{positionFor}
 use Rattle.dna_writer.proofs.group.position_after.Statement.{statement}
 use Rattle.dna_writer.proofs.group.position_after.Tie as tie
-use Rattle.dna_writer.proofs.group.position_after.Reads as reads
-use Rattle.dna_writer.proofs.group.position_after.Lts as lts
 
--- src/group.rt:197:25
 enum-known-record : tie.Need-enum-known-record
 enum-known-record c = search needs
 
--- src/group.rt:198:24
 enum-known-record-2 : tie.Need-enum-known-record-2
 enum-known-record-2 c = search needs
 
--- src/group.rt:199:23
 enum-known-record-3 : tie.Need-enum-known-record-3
 enum-known-record-3 c = search needs
 
--- src/group.rt:200:24
 enum-told : tie.Need-enum-told
 enum-told c = search needs
 
--- src/group.rt:201:25
 enum-told-2 : tie.Need-enum-told-2
 enum-told-2 c = search needs
 
--- src/group.rt:193:1
 returns : tie.Need-returns
 unfolding positionFor
 returns c = simp (c .before .«record» .given .1)
 
--- src/group.rt:193:1
 returns-2 : tie.Need-returns-2
 unfolding positionFor
 returns-2 c = simp (c .before .record2 .given .1)
 
--- src/group.rt:193:1
 returns-3 : tie.Need-returns-3
 unfolding positionFor
 returns-3 c = simp (c .before .record3 .given .1)
 
--- src/group.rt:193:1
 returns-4 : tie.Need-returns-4
 unfolding positionFor
 returns-4 c = simp (c .enum-told .given .1)
 
--- src/group.rt:193:1
 returns-5 : tie.Need-returns-5
 unfolding positionFor
 returns-5 c = simp (c .enum-told2 .given .1)

@@ -1,3 +1,6 @@
+-- `dna_writer::group::put_group` meets its contract. The loop's invariant: writing what is left of
+-- the group's records makes the buffer what it is to be, the records that are left are those after
+-- the writer's position, and its flags are those of the records that are written. Assumes nothing.
 use mathlib.Core.Path.{_≡_, refl, sym, ap, ap₂, _∙_}
 use Prim.Native.Nat.{ℕ, suc, _+_, _-_, _*_, _%_, _^_, _≤_, _<_, min}
 use native.Mathlib.Nat.{add-zero, mod-eq-of-lt}
@@ -12,49 +15,48 @@ use Rattle.format.specs.EncodeAnswer.{EncodeInput}
 use Rattle.format.specs.EncodeAnswer.{lent}
 use Rattle.dna_writer.specs.Writer.{recordsFrom}
 use Rattle.dna_writer.proofs.LentLaws.{WellLent, well-lent, lies-at}
-use Rattle.dna_writer.proofs.RecordSteps.{recordOf, records-next, length-records, group-after}
+use Rattle.dna_writer.proofs.RecordSteps.{recordOf, records-next, length-records}
+use Rattle.dna_writer.proofs.RecordSteps.{group-after}
 use Rattle.dna_writer.proofs.ChosenSteps.{place-after, previous-after, flags-after}
 use Rattle.dna_writer.proofs.GroupSteps.{groupLeft, rest-after, group-inside, group-here}
 use Rattle.dna_writer.proofs.GroupSteps.{record-room, record-turn, records-end}
 use Rattle.dna_writer.proofs.GroupSteps.{gatheredBits, bits-none, bits-turn, bits-room}
 use Rattle.dna_writer.proofs.GroupSteps.{bits-small, bits-bytes, group-room, group-written}
-use borrow.Author.Needs.{needs}
 use Rattle.dna_writer.proofs.group.put_group.Statement.{statement}
 use Rattle.dna_writer.proofs.group.put_group.Tie as tie
-use Rattle.dna_writer.proofs.group.put_group.Reads as reads
-use Rattle.dna_writer.proofs.group.put_group.Lts as lts
-use Rattle.dna_writer.proofs.group.group_size.Reads as group-size-reads
-use Rattle.dna_writer.proofs.group.put_read.Reads as put-read-reads
-use Rattle.dna_writer.proofs.group.read_start.Reads as read-start-reads
-use Rattle.integers.proofs.put_u32.Reads as put-u32-reads
-use Rattle.integers.proofs.size32.Reads as size32-reads
 
+-- The records of the reads from read i on.
 abbrev recordsOf : (bases : ℕ) (reference letters ends positions strands lefts rights : List ℕ)
     (previous i : ℕ) → List Written
 recordsOf bases reference letters ends positions strands lefts rights previous i =
     recordsFrom bases reference (lent letters ends positions strands lefts rights 0 0) previous i
 
+-- Writing the group's records from record k on makes the buffer what it is to be.
+abbrev RecordsLeft : (records : List Written) (old : List ℕ) (at : ℕ) (out : List ℕ) (place k : ℕ)
+    → Type 0
+RecordsLeft records old at out place k =
+    Pasting (pasted old (at + 4) (groupLeft records 0)) (at + 4 + length (groupLeft records 0)) out
+    place (groupLeft records k)
+
 abbrev Inv-loop : tie.InvT-loop
-Inv-loop bases reference letters ends positions strands lefts rights forward-table reverse-table first previous list₀ out₀ at reads from₀ writer₀ k₀ list out from writer k =
+Inv-loop bases reference letters ends positions strands lefts rights forward-table reverse-table
+    first previous list₀ out₀ at reads from₀ writer₀ k₀ list out from writer k =
+    let records : List Written =
+    recordsOf bases reference letters ends positions strands lefts rights previous first in
+    let left : List Written =
+    recordsOf bases reference letters ends positions strands lefts rights (writer .previous)
+    (first + k) in
     (k ≤ reads)
-    × Pasting
-    (pasted out₀ (at + 4)
-    (groupLeft (recordsOf bases reference letters ends positions strands lefts rights previous first) 0))
-    (at + 4 + length
-    (groupLeft (recordsOf bases reference letters ends positions strands lefts rights previous first) 0))
-    out (writer .place)
-    (groupLeft (recordsOf bases reference letters ends positions strands lefts rights previous first) k)
+    × RecordsLeft records out₀ at out (writer .place) k
     × (length out ≡ length out₀)
-    × (drop k (recordsOf bases reference letters ends positions strands lefts rights previous first)
-    ≡ recordsOf bases reference letters ends positions strands lefts rights (writer .previous) (first + k))
-    × (writer .flags
-    ≡ gatheredBits
-    (take 8 (recordsOf bases reference letters ends positions strands lefts rights previous first)) k)
+    × (drop k records ≡ left)
+    × (writer .flags ≡ gatheredBits (take 8 records) k)
     × (from ≡ getD (0 ∷ ends) (first + k) 0)
     × (length list ≡ length list₀)
 
 abbrev μ-loop : tie.MeasureT-loop
-μ-loop bases reference letters ends positions strands lefts rights forward-table reverse-table first previous list₀ out₀ at reads from₀ writer₀ k₀ list out from writer k =
+μ-loop bases reference letters ends positions strands lefts rights forward-table reverse-table
+    first previous list₀ out₀ at reads from₀ writer₀ k₀ list out from writer k =
     reads - k
 
 -- What is lent has no fault.
@@ -95,22 +97,19 @@ last-bits c k reads flags is low high bits =
     let e : k ≡ reads = omega arith in
     bits ∙ ap (gatheredBits (take 8 (own c))) e
 
--- src/group.rt:90:9
 group-size-requires : tie.Need-group-size-requires Inv-loop μ-loop
 group-size-requires c κs = search needs
 
--- src/group.rt:91:9
 read-start-requires : tie.Need-read-start-requires Inv-loop μ-loop
 read-start-requires c κs = search needs
 
--- src/group.rt:93:16
 add-put-u32 : tie.Need-add-put-u32 Inv-loop μ-loop
 add-put-u32 c = search needs
 
--- src/group.rt:98:5
 loop-holds : tie.Need-loop-holds Inv-loop μ-loop
 loop-holds c =
-    let start = c .before .before .before .before .before .before .before .before .before .before .before in
+    let start = c .before .before .before .before .before .before .before .before .before
+    .before .before in
     let a = start .args in
     let records = own start in (
       omega arith,
@@ -119,58 +118,76 @@ loop-holds c =
       refl,
       ap (λ (n : ℕ). recordsAt start (a .previous) n) (sym (add-zero (a .first))),
       bits-none (take 8 records),
-      c .read-start .ensures ∙ ap (λ (n : ℕ). getD (0 ∷ a .ends .now) n 0) (sym (add-zero (a .first))),
+      c .read-start .ensures
+          ∙ ap (λ (n : ℕ). getD (0 ∷ a .ends .now) n 0) (sym (add-zero (a .first))),
       refl,
     )
 
--- src/group.rt:99:17
 add-i : tie.Need-add-i Inv-loop μ-loop
 add-i c = search needs
 
--- src/group.rt:100:25
 mul-size32 : tie.Need-mul-size32 Inv-loop μ-loop
 mul-size32 c = search needs
 
--- src/group.rt:100:25
 shared-slice-read-size32 : tie.Need-shared-slice-read-size32 Inv-loop μ-loop
 shared-slice-read-size32 c = search needs
 
--- src/group.rt:100:13
 size32-requires : tie.Need-size32-requires Inv-loop μ-loop
 size32-requires c κs = search needs
 
--- src/group.rt:107:13
 mul-put-read : tie.Need-mul-put-read Inv-loop μ-loop
 mul-put-read c = search needs
 
--- src/group.rt:107:13
 shared-slice-read-put-read : tie.Need-shared-slice-read-put-read Inv-loop μ-loop
-shared-slice-read-put-read c = omega (arith, well (c .before .before .before .before .before .before .before .before .before .before .before .before .before .before .before .before) .positions, c .before .before .before .before .before .before .group-size .ensures, c .before .before .before .loop-test .taken)
+shared-slice-read-put-read c =
+    let test = c .before .before .before in
+    let set = test .before .before .before in
+    let start = set .before .before .before .before .before .before .before .before
+    .before .before in
+    omega (arith, well start .positions, set .group-size .ensures, test .loop-test .taken)
 
--- src/group.rt:108:13
 shared-slice-read-put-read-2 : tie.Need-shared-slice-read-put-read-2 Inv-loop μ-loop
-shared-slice-read-put-read-2 c = omega (arith, well (c .before .before .before .before .before .before .before .before .before .before .before .before .before .before .before .before .before) .strands, c .before .before .before .before .before .before .before .group-size .ensures, c .before .before .before .before .loop-test .taken)
+shared-slice-read-put-read-2 c =
+    let test = c .before .before .before .before in
+    let set = test .before .before .before in
+    let start = set .before .before .before .before .before .before .before .before
+    .before .before in
+    omega (arith, well start .strands, set .group-size .ensures, test .loop-test .taken)
 
--- src/group.rt:109:13
 shared-slice-read-put-read-3 : tie.Need-shared-slice-read-put-read-3 Inv-loop μ-loop
-shared-slice-read-put-read-3 c = omega (arith, well (c .before .before .before .before .before .before .before .before .before .before .before .before .before .before .before .before .before .before) .lefts, c .before .before .before .before .before .before .before .before .group-size .ensures, c .before .before .before .before .before .loop-test .taken)
+shared-slice-read-put-read-3 c =
+    let test = c .before .before .before .before .before in
+    let set = test .before .before .before in
+    let start = set .before .before .before .before .before .before .before .before
+    .before .before in
+    omega (arith, well start .lefts, set .group-size .ensures, test .loop-test .taken)
 
--- src/group.rt:110:13
 shared-slice-read-put-read-4 : tie.Need-shared-slice-read-put-read-4 Inv-loop μ-loop
-shared-slice-read-put-read-4 c = omega (arith, well (c .before .before .before .before .before .before .before .before .before .before .before .before .before .before .before .before .before .before .before) .rights, c .before .before .before .before .before .before .before .before .before .group-size .ensures, c .before .before .before .before .before .before .loop-test .taken)
+shared-slice-read-put-read-4 c =
+    let test = c .before .before .before .before .before .before in
+    let set = test .before .before .before in
+    let start = set .before .before .before .before .before .before .before .before
+    .before .before in
+    omega (arith, well start .rights, set .group-size .ensures, test .loop-test .taken)
 
--- src/group.rt:101:9
 put-read-requires : tie.Need-put-read-requires Inv-loop μ-loop
 put-read-requires c κs =
-    let start = c .before .before .before .before .before .before .before .before .before .before .before .before .before .before .before .before .before .before .before .before .before in
+    let sized = c .before .before .before .before .before .before in
+    let test = sized .before .before in
+    let turn = test .before in
+    let set = turn .before .before in
+    let start = set .before .before .before .before .before .before .before .before
+    .before .before in
     let a = start .args in
-    let l = c .before .before .before .before .before .before .before .before .before .loop in
+    let l = turn .loop in
     let records = own start in
     let fine = well start in
-    let inside : a .first + l .k < length (a .ends .now) = omega (arith, c .before .before .before .before .before .before .before .before .before .before .before .group-size .ensures, c .before .before .before .before .before .before .before .before .loop-test .taken) in
-    let few : l .k < 8 = omega (arith, c .before .before .before .before .before .before .before .before .before .before .before .group-size .ensures, c .before .before .before .before .before .before .before .before .loop-test .taken) in
-    let to = c .before .before .before .before .before .before .size32 .ensures .0 in
-    let split = l .inv .3 ∙ records-next (a .bases) (a .reference .now) (input start) (l .writer .previous)
+    let inside : a .first + l .k < length (a .ends .now) =
+    omega (arith, set .group-size .ensures, test .loop-test .taken) in
+    let few : l .k < 8 = omega (arith, set .group-size .ensures, test .loop-test .taken) in
+    let to = sized .size32 .ensures .0 in
+    let split = l .inv .3
+    ∙ records-next (a .bases) (a .reference .now) (input start) (l .writer .previous)
     (a .first + l .k) (l .from) _ inside (l .inv .5) to in (
       (
         fine .sized,
@@ -185,35 +202,41 @@ put-read-requires c κs =
       ),
     )
 
--- src/group.rt:118:9
 add-k : tie.Need-add-k Inv-loop μ-loop
 add-k c = search needs
 
--- src/group.rt:98:5
 loop-less : tie.Need-loop-less Inv-loop μ-loop
 loop-less c = search needs
 
--- src/group.rt:98:5
 loop-again : tie.Need-loop-again Inv-loop μ-loop
 loop-again c =
-    let start = c .before .before .before .before .before .before .before .before .before .before .before .before .before .before .before .before .before .before .before .before .before .before .before .before .before .before in
+    let put = c .before .before .before .before in
+    let sized = put .before .before .before .before .before .before .before in
+    let test = sized .before .before in
+    let turn = test .before in
+    let set = turn .before .before in
+    let start = set .before .before .before .before .before .before .before .before
+    .before .before in
     let a = start .args in
-    let l = c .before .before .before .before .before .before .before .before .before .before .before .before .before .before .loop in
+    let l = turn .loop in
     let records = own start in
-    let inside : a .first + l .k < length (a .ends .now) = omega (arith, c .before .before .before .before .before .before .before .before .before .before .before .before .before .before .before .before .group-size .ensures, c .before .before .before .before .before .before .before .before .before .before .before .before .before .loop-test .taken) in
-    let few : l .k < 8 = omega (arith, c .before .before .before .before .before .before .before .before .before .before .before .before .before .before .before .before .group-size .ensures, c .before .before .before .before .before .before .before .before .before .before .before .before .before .loop-test .taken) in
-    let to = c .before .before .before .before .before .before .before .before .before .before .before .size32 .ensures .0 in
-    let w = recordOf (a .bases) (a .reference .now) (input start) (l .writer .previous) (a .first + l .k) (l .from) (c .before .before .before .before .before .before .before .before .before .before .before .size32 .result) in
-    let split = l .inv .3 ∙ records-next (a .bases) (a .reference .now) (input start) (l .writer .previous)
+    let inside : a .first + l .k < length (a .ends .now) =
+    omega (arith, set .group-size .ensures, test .loop-test .taken) in
+    let few : l .k < 8 = omega (arith, set .group-size .ensures, test .loop-test .taken) in
+    let to = sized .size32 .ensures .0 in
+    let w = recordOf (a .bases) (a .reference .now) (input start) (l .writer .previous)
+    (a .first + l .k) (l .from) (sized .size32 .result) in
+    let split = l .inv .3
+    ∙ records-next (a .bases) (a .reference .now) (input start) (l .writer .previous)
     (a .first + l .k) (l .from) _ inside (l .inv .5) to in
-    let next = c .before .before .before .before .put-read .result in
-    let is = c .before .before .before .before .put-read .ensures .1 in
+    let next = put .put-read .result in
+    let is = put .put-read .ensures .1 in
     let one : a .first + l .k + 1 ≡ a .first + (l .k + 1) = omega arith in
     let more : suc (a .first + l .k) ≡ a .first + (l .k + 1) = omega arith in (
-      omega (arith, c .before .before .before .before .before .before .before .before .before .before .before .before .before .loop-test .taken),
-      record-turn records (l .k) w _ few split (l .inv .1) _ (next .place) (c .before .before .before .before .put-read .ensures .0)
-          (place-after (l .writer) next w is),
-      search needs,
+      omega (arith, test .loop-test .taken),
+      record-turn records (l .k) w _ few split (l .inv .1) _ (next .place)
+          (put .put-read .ensures .0) (place-after (l .writer) next w is),
+      c .before .out .given ∙ l .inv .2,
       rest-after records (l .k) w _ few split
           ∙ ap₂ (λ (p n : ℕ). recordsAt start p n) (sym (previous-after (l .writer) next w is)) one,
       flags-after (l .writer) next w is
@@ -221,66 +244,72 @@ loop-again c =
           (group-inside records (l .k) w _ few split) (group-here records (l .k) w _ few split)
           (l .inv .4),
       to ∙ ap (λ (n : ℕ). getD (0 ∷ a .ends .now) n 0) more,
-      search needs,
+      c .before .before .before .list .given ∙ l .inv .6,
     )
 
--- src/group.rt:120:40
 sub-put-u32 : tie.Need-sub-put-u32 Inv-loop μ-loop
 sub-put-u32 c = search needs
 
--- src/group.rt:120:23
 shl-put-u32 : tie.Need-shl-put-u32 Inv-loop μ-loop
 shl-put-u32 c = search needs
 
--- src/group.rt:120:22
 cast-put-u32 : tie.Need-cast-put-u32 Inv-loop μ-loop
 cast-put-u32 c =
-    let start = c .before .before .before .before .before .before .before .before .before .before .before .before .before .before .before in
+    let test = c .before .before in
+    let turn = test .before in
+    let set = turn .before .before in
+    let start = set .before .before .before .before .before .before .before .before
+    .before .before in
     let a = start .args in
-    let l = c .before .before .before .loop in
-    let reads = c .before .before .before .before .before .group-size in
-    let flags = last-bits start (l .k) (reads .result) (l .writer .flags) (reads .ensures) (l .inv .0) (c .before .before .loop-test .left) (l .inv .4) in
+    let l = turn .loop in
+    let reads = set .group-size in
+    let flags = last-bits start (l .k) (reads .result) (l .writer .flags) (reads .ensures)
+    (l .inv .0) (test .loop-test .left) (l .inv .4) in
     let all = own-size start (reads .result) (reads .ensures) in
-    let small = bits-small (take 8 (own start)) (reads .result) (l .writer .flags) all (omega (arith, reads .ensures)) flags in
+    let few : reads .result ≤ 8 = omega (arith, reads .ensures) in
+    let small = bits-small (take 8 (own start)) (reads .result) (l .writer .flags) all few flags in
     let whole : l .writer .flags * 2 ^ (8 - reads .result) % 18446744073709551616
     ≡ l .writer .flags * 2 ^ (8 - reads .result) = mod-eq-of-lt (omega (arith, small)) in
     omega (arith, small, whole)
 
--- src/group.rt:120:5
 put-u32-requires : tie.Need-put-u32-requires Inv-loop μ-loop
 put-u32-requires c κs = search needs
 
--- src/group.rt:44:1
 same-length : tie.Need-same-length Inv-loop μ-loop
 same-length c = search needs
 
--- src/group.rt:44:1
 same-length-2 : tie.Need-same-length-2 Inv-loop μ-loop
 same-length-2 c = search needs
 
--- src/group.rt:44:1
 returns : tie.Need-returns Inv-loop μ-loop
 returns c =
-    let start = c .before .before .before .before .before .before .before .before .before .before .before .before .before .before .before .before .before .before in
+    let stored = c .before .before in
+    let test = stored .before .before .before in
+    let turn = test .before in
+    let set = turn .before .before in
+    let start = set .before .before .before .before .before .before .before .before
+    .before .before in
     let a = start .args in
-    let l = c .before .before .before .before .before .before .loop in
-    let reads = c .before .before .before .before .before .before .before .before .group-size in
+    let l = turn .loop in
+    let reads = set .group-size in
     let group = take 8 (own start) in
-    let flags = last-bits start (l .k) (reads .result) (l .writer .flags) (reads .ensures) (l .inv .0) (c .before .before .before .before .before .loop-test .left) (l .inv .4) in
+    let flags = last-bits start (l .k) (reads .result) (l .writer .flags) (reads .ensures)
+    (l .inv .0) (test .loop-test .left) (l .inv .4) in
     let all = own-size start (reads .result) (reads .ensures) in
     let few : reads .result ≤ 8 = omega (arith, reads .ensures) in
     let small = bits-small group (reads .result) (l .writer .flags) all few flags in
     let whole : l .writer .flags * 2 ^ (8 - reads .result) % 18446744073709551616
     ≡ l .writer .flags * 2 ^ (8 - reads .result) = mod-eq-of-lt (omega (arith, small)) in
     let bytes = bits-bytes group (reads .result) (l .writer .flags) all few flags _ whole in
-    let end = records-end (own start) (l .k) (omega (arith, all, c .before .before .before .before .before .loop-test .left)) (l .inv .1) in
+    let end = records-end (own start) (l .k) (omega (arith, all, test .loop-test .left))
+    (l .inv .1) in
     let written = group-written group (a .out .now) (a .at) (start .pre .1 .1) (l .out) _
-    (l .writer .place) _ end bytes (c .before .before .put-u32 .ensures) in (
+    (l .writer .place) _ end bytes (stored .put-u32 .ensures) in (
       written .0,
       written .1,
       group-after (a .bases) (a .reference .now) (input start) (a .previous) (a .first)
-          (l .writer .previous) (l .k) (omega (arith, reads .ensures, l .inv .0, c .before .before .before .before .before .loop-test .left))
-          (l .inv .3),
+          (l .writer .previous) (l .k)
+          (omega (arith, reads .ensures, l .inv .0, test .loop-test .left)) (l .inv .3),
     )
 
 pub put-group-spec : {M : Type 1} → statement M

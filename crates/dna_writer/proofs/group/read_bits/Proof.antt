@@ -1,157 +1,155 @@
+-- `dna_writer::group::read_bits` meets its contract. Assumes nothing.
+use mathlib.Core.Path.{ap}
 use Prim.Native.Nat.{ℕ}
+use native.Mathlib.Omega.{arith}
 use mathlib.Core.List.{List}
+use borrow.Author.Needs.{needs}
 use Rattle.dna.specs.Record.{Entry}
 use Rattle.dna.specs.declared.Record.{Record}
 use Rattle.record_writer.specs.Written.{recordWritten}
 use Rattle.dna_writer.specs.Writer.{flagBits}
-use native.Mathlib.Omega.{arith}
-use mathlib.Core.Path.{_≡_, sym, ap, _∙_}
-use Rattle.dna_writer.proofs.BitLaws.{perfect-bits, global-bits, local-bits, raw-bits, raw4-bits}
-use borrow.Author.Needs.{needs}
+use Rattle.dna_writer.proofs.BitLaws.{perfect-bits, global-bits, local-bits, raw-bits}
+use Rattle.dna_writer.proofs.BitLaws.{raw4-bits}
 use Rattle.dna_writer.proofs.group.read_bits.Statement.{statement}
 use Rattle.dna_writer.proofs.group.read_bits.Tie as tie
-use Rattle.dna_writer.proofs.group.read_bits.Reads as reads
-use Rattle.dna_writer.proofs.group.read_bits.Lts as lts
-use Rattle.dna_writer.proofs.group.aligned_bits.Reads as aligned-bits-reads
-use Rattle.dna_writer.proofs.group.bit.Reads as bit-reads
 
 -- The bits of a record.
 abbrev bitsOf : (bases previous : ℕ) (record′ : Record) (entries : List Entry) (codes : List ℕ) → ℕ
 bitsOf bases previous record′ entries codes =
     flagBits (recordWritten bases previous record′ entries codes .context)
 
--- src/group.rt:214:26
 bit-requires : tie.Need-bit-requires
 bit-requires c κs = search needs
 
--- src/group.rt:214:18
 mul-with-n : tie.Need-mul-with-n
 mul-with-n c = omega (arith, c .bit .ensures .1)
 
--- src/group.rt:216:25
 enum-known-record : tie.Need-enum-known-record
 enum-known-record c = search needs
 
--- src/group.rt:216:43
 aligned-bits-requires : tie.Need-aligned-bits-requires
 aligned-bits-requires c κs = search needs
 
--- src/group.rt:216:39
 add-result : tie.Need-add-result
 add-result c = search needs
 
--- src/group.rt:216:39
 add-result-2 : tie.Need-add-result-2
-add-result-2 c = omega (arith, c .before .before .before .before .bit .ensures .1, c .aligned-bits .ensures .1)
+add-result-2 c =
+    let first = c .before .before .before .before in
+    omega (arith, first .bit .ensures .1, c .aligned-bits .ensures .1)
 
--- src/group.rt:217:24
 enum-known-record-2 : tie.Need-enum-known-record-2
 enum-known-record-2 c = search needs
 
--- src/group.rt:217:38
 aligned-bits-requires-2 : tie.Need-aligned-bits-requires-2
 aligned-bits-requires-2 c κs = search needs
 
--- src/group.rt:217:38
 add-result-3 : tie.Need-add-result-3
-add-result-3 c = omega (arith, c .before .before .before .before .bit .ensures .1, c .aligned-bits2 .ensures .1)
+add-result-3 c =
+    let first = c .before .before .before .before in
+    omega (arith, first .bit .ensures .1, c .aligned-bits2 .ensures .1)
 
--- src/group.rt:218:23
 enum-known-record-3 : tie.Need-enum-known-record-3
 enum-known-record-3 c = search needs
 
--- src/group.rt:218:37
 aligned-bits-requires-3 : tie.Need-aligned-bits-requires-3
 aligned-bits-requires-3 c κs = search needs
 
--- src/group.rt:218:37
 add-result-4 : tie.Need-add-result-4
-add-result-4 c = omega (arith, c .before .before .before .before .bit .ensures .1, c .aligned-bits3 .ensures .1)
+add-result-4 c =
+    let first = c .before .before .before .before in
+    omega (arith, first .bit .ensures .1, c .aligned-bits3 .ensures .1)
 
--- src/group.rt:219:24
 enum-told : tie.Need-enum-told
 enum-told c = search needs
 
--- src/group.rt:220:25
 enum-told-2 : tie.Need-enum-told-2
 enum-told-2 c = search needs
 
--- src/group.rt:208:1
 returns : tie.Need-returns
 returns c =
-    let r = c .before .before .«record» .given in
-    let a = c .before .before .before .before .before .args in (
+    let known = c .before .before in
+    let first = known .before .before in
+    let start = first .before in
+    let r = known .«record» .given in
+    let a = start .args in (
       λ bases entries codes is.
           omega (
             arith,
             ap (λ (k : Record). bitsOf bases (a .previous) k entries codes) (r .1),
             perfect-bits bases (a .previous) entries codes (a .count) is (r .0 .0),
             c .aligned-bits .ensures .0,
-            c .before .before .before .before .bit .ensures .0,
+            first .bit .ensures .0,
           ),
-      omega (arith, c .aligned-bits .ensures .1, c .before .before .before .before .bit .ensures .1),
+      omega (arith, c .aligned-bits .ensures .1, first .bit .ensures .1),
     )
 
--- src/group.rt:208:1
 returns-2 : tie.Need-returns-2
 returns-2 c =
-    let r = c .before .before .record2 .given in
-    let a = c .before .before .before .before .before .args in (
+    let known = c .before .before in
+    let first = known .before .before in
+    let start = first .before in
+    let r = known .record2 .given in
+    let a = start .args in (
       λ bases entries codes is.
           omega (
             arith,
             ap (λ (k : Record). bitsOf bases (a .previous) k entries codes) (r .1),
             global-bits bases (a .previous) entries codes (a .count) is (r .0 .0),
             c .aligned-bits2 .ensures .0,
-            c .before .before .before .before .bit .ensures .0,
+            first .bit .ensures .0,
           ),
-      omega (arith, c .aligned-bits2 .ensures .1, c .before .before .before .before .bit .ensures .1),
+      omega (arith, c .aligned-bits2 .ensures .1, first .bit .ensures .1),
     )
 
--- src/group.rt:208:1
 returns-3 : tie.Need-returns-3
 returns-3 c =
-    let r = c .before .before .record3 .given in
-    let a = c .before .before .before .before .before .args in (
+    let known = c .before .before in
+    let first = known .before .before in
+    let start = first .before in
+    let r = known .record3 .given in
+    let a = start .args in (
       λ bases entries codes is.
           omega (
             arith,
             ap (λ (k : Record). bitsOf bases (a .previous) k entries codes) (r .1),
             local-bits bases (a .previous) entries codes (a .count) is (r .0 .0),
             c .aligned-bits3 .ensures .0,
-            c .before .before .before .before .bit .ensures .0,
+            first .bit .ensures .0,
           ),
-      omega (arith, c .aligned-bits3 .ensures .1, c .before .before .before .before .bit .ensures .1),
+      omega (arith, c .aligned-bits3 .ensures .1, first .bit .ensures .1),
     )
 
--- src/group.rt:208:1
 returns-4 : tie.Need-returns-4
 returns-4 c =
+    let first = c .before .before in
+    let start = first .before in
     let r = c .enum-told .given in
-    let a = c .before .before .before .args in (
+    let a = start .args in (
       λ bases entries codes is.
           omega (
             arith,
             ap (λ (k : Record). bitsOf bases (a .previous) k entries codes) (r .1),
             raw-bits bases (a .previous) entries codes (a .count) is,
-            c .before .before .bit .ensures .0,
+            first .bit .ensures .0,
           ),
-      omega (arith, c .before .before .bit .ensures .1),
+      omega (arith, first .bit .ensures .1),
     )
 
--- src/group.rt:208:1
 returns-5 : tie.Need-returns-5
 returns-5 c =
+    let first = c .before .before in
+    let start = first .before in
     let r = c .enum-told2 .given in
-    let a = c .before .before .before .args in (
+    let a = start .args in (
       λ bases entries codes is.
           omega (
             arith,
             ap (λ (k : Record). bitsOf bases (a .previous) k entries codes) (r .1),
             raw4-bits bases (a .previous) entries codes (a .count) is,
-            c .before .before .bit .ensures .0,
+            first .bit .ensures .0,
           ),
-      omega (arith, c .before .before .bit .ensures .1),
+      omega (arith, first .bit .ensures .1),
     )
 
 pub read-bits-spec : {M : Type 1} → statement M

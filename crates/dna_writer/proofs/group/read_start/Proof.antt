@@ -1,33 +1,25 @@
+-- `dna_writer::group::read_start` meets its contract. Assumes nothing.
 use mathlib.Core.Path.{_∙_}
-use Rattle.dna_writer.proofs.LentLaws.{starts-after}
 use borrow.Author.Needs.{needs}
+use Rattle.dna_writer.proofs.LentLaws.{starts-after}
 use Rattle.dna_writer.proofs.group.read_start.Statement.{statement}
 use Rattle.dna_writer.proofs.group.read_start.Tie as tie
-use Rattle.dna_writer.proofs.group.read_start.Reads as reads
-use Rattle.dna_writer.proofs.group.read_start.Lts as lts
-use Rattle.integers.proofs.size32.Reads as size32-reads
 
--- src/group.rt:270:9
 returns : tie.Need-returns
 returns c = search needs
 
--- src/group.rt:272:17
 sub-size32 : tie.Need-sub-size32
 sub-size32 c = search needs
 
--- src/group.rt:272:12
 mul-size32 : tie.Need-mul-size32
 mul-size32 c = search needs
 
--- src/group.rt:272:12
 shared-slice-read-size32 : tie.Need-shared-slice-read-size32
 shared-slice-read-size32 c = search needs
 
--- src/group.rt:272:5
 size32-requires : tie.Need-size32-requires
 size32-requires c κs = search needs
 
--- src/group.rt:265:1
 returns-2 : tie.Need-returns-2
 returns-2 c =
     let a = c .before .before .before .before .args in
