@@ -184,8 +184,8 @@ bench() {
   for _ in 1 2 3 4 5 6 7 8 9 10; do cat all.ora; done > tenfold.ora
 
   declare -A ways best
-  ways[validate_1]="$frubanto validate --threads 1 -r genome.ref all.ora"
-  ways[validate_2]="$frubanto validate --threads 2 -r genome.ref all.ora"
+  ways[validate_1]="$frubanto validate --threads 1 -r genome.ref tenfold.ora"
+  ways[validate_2]="$frubanto validate --threads 2 -r genome.ref tenfold.ora"
   ways[decode_1]="$frubanto decode --fasta --threads 1 -r genome.ref all.ora"
   ways[decode_2]="$frubanto decode --fasta --threads 2 -r genome.ref all.ora"
   ways[samtools_1]="samtools fasta all.bam"
@@ -194,7 +194,7 @@ bench() {
 
   echo "| 2,000,000 reads of 150 and 126 letters | |"
   echo "|---|---|"
-  row "validate, speed, two threads to one" "${best[validate_1]}" "${best[validate_2]}"
+  row "validate, ten such files joined, speed, two threads to one" "${best[validate_1]}" "${best[validate_2]}"
   row "decode to FASTA, speed, two threads to one" "${best[decode_1]}" "${best[decode_2]}"
   row "decode to FASTA, speed, to samtools fasta, one thread each" "${best[samtools_1]}" "${best[decode_1]}"
   row "decode to FASTA, speed, to samtools fasta, two threads each" "${best[samtools_2]}" "${best[decode_2]}"

@@ -26,8 +26,7 @@ ghost use Rattle.format.specs.BlockAnswer.{
   decodedEnds,
 };
 ghost use Rattle.format.specs.FileAnswer.{validated};
-ghost use Rattle.format.specs.EncodeAnswer.{encoded, encodedBuffer};
-ghost use Rattle.format.specs.EncodeAnswer.{lent};
+ghost use Rattle.format.specs.EncodeAnswer.{lent, encoded, encodedBuffer};
 ghost use Rattle.capi.specs.Slots.{slots, acceptedSlots, sectionSlots};
 
 // Decodes the block at the input's start.

@@ -21,7 +21,7 @@ use Rattle.dna.specs.Counts.{zeroCounts}
 use Rattle.dna.specs.Sizes.{lengthInvalid}
 use Rattle.format.specs.Outcome.{Outcome, refusal, acceptedBlock}
 use Rattle.format.specs.RuleBlock.{codeOfLetter, writtenSizes, writtenDivision}
-use Rattle.format.specs.EncodeAnswer.{EncodeInput, readsOfInput, candidatesOf, blockOf}
+use Rattle.format.specs.EncodeAnswer.{EncodeInput, lent, readsOfInput, candidatesOf, blockOf}
 use Rattle.format.specs.EncodeAnswer.{readCountTooLarge, candidateCountWrong, readEndsInvalid}
 use Rattle.format.specs.EncodeAnswer.{letterInvalid, blockCapacityTooSmall, encodeFaults}
 use Rattle.format.specs.EncodeAnswer.{encodeNumber, encoded, encodedBuffer}
@@ -32,7 +32,6 @@ use Rattle.format.proofs.WrittenWellFormed.{RuleFits}
 use Rattle.format.proofs.WritesBlocks.Inputs.{codes-lengths, ends-count, reads-of-input, rule-fits}
 use Rattle.format.proofs.WritesBlocks.Accepted.{zero-writable}
 use Rattle.dna_writer.specs.Lent.{lentNumber}
-use Rattle.format.specs.EncodeAnswer.{lent}
 use Rattle.dna_writer.specs.Section.{recordsOf, dnaBytes, nBytes}
 
 -- ---- The number

@@ -1,7 +1,6 @@
 // Writing a block by the fixed rule (01, The writer's fixed rule): the faults of what is lent, then
 // the lengths of the sections, then their bytes. The contract of the public call cites
-// specs/EncodeAnswer.antt of format, through the input of slices in specs/Lent.antt of dna_writer;
-// it has no `requires`.
+// specs/EncodeAnswer.antt of format; it has no `requires`.
 use dna::refusals::BLOCK_CAPACITY_TOO_SMALL;
 use dna_writer::dna_length;
 use dna_writer::put_dna;
@@ -24,12 +23,11 @@ ghost use Rattle.base.specs.Groups.{groupCount};
 ghost use Rattle.base.specs.Paste.{pasted};
 ghost use Rattle.format.specs.Answered.{outcomeOfEncode};
 ghost use Rattle.format.specs.HeaderFaults.{maxReads};
-ghost use Rattle.format.specs.EncodeAnswer.{encoded, encodedBuffer};
+ghost use Rattle.format.specs.EncodeAnswer.{lent, encoded, encodedBuffer};
 ghost use Rattle.format.specs.Header.{tableLength, headerBytes};
 ghost use Rattle.format.specs.RuleBlock.{allEqual, writtenSizes, writtenFields, writtenHeader};
 ghost use Rattle.header.specs.WrittenHeader.{fieldsOf};
 ghost use Rattle.dna_writer.specs.Lent.{lentNumber};
-ghost use Rattle.format.specs.EncodeAnswer.{lent};
 ghost use Rattle.encoder.specs.Lengths.{LengthsKnown};
 
 // The faults 1 and 30 to 33.

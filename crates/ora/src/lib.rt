@@ -28,9 +28,8 @@ ghost use Rattle.format.specs.BlockAnswer.{
   decodedEnds,
 };
 ghost use Rattle.format.specs.FileAnswer.{validated};
-ghost use Rattle.format.specs.EncodeAnswer.{encoded, encodedBuffer};
+ghost use Rattle.format.specs.EncodeAnswer.{lent, encoded, encodedBuffer};
 ghost use Rattle.header.specs.Part.{BeginsAt};
-ghost use Rattle.format.specs.EncodeAnswer.{lent};
 ghost use Rattle.ora.specs.Answers.{spanOf};
 
 // ---- Reading
@@ -81,8 +80,7 @@ pub fn validate(bases: u64, reference: &[u8], file: &[u8]) -> FileOutcome
 
 // Writes the block that the fixed rule makes of these reads to the start of `out`, with 1 and 30 to
 // 34: its length in bytes, or the refusal. Letters and ends are as decode gives them; the other four
-// are proposals, one element a read. The input of these slices is `lent` (specs/Lent.antt of
-// dna_writer). What lies past the block stays; a refusal changes nothing.
+// are proposals, one element a read. What lies past the block stays; a refusal changes nothing.
 pub fn encode(
     bases: u64,
     reference: &[u8],

@@ -2,8 +2,7 @@
 use mathlib.Core.Path.{refl}
 use native.Mathlib.Omega.{arith}
 use borrow.Author.Needs.{needs}
-use Rattle.format.specs.EncodeAnswer.{EncodeInput}
-use Rattle.format.specs.EncodeAnswer.{lent}
+use Rattle.format.specs.EncodeAnswer.{EncodeInput, lent}
 use Rattle.dna_writer.proofs.LentLaws.{well-lent}
 use Rattle.dna_writer.proofs.RecordSteps.{section-length}
 use Rattle.dna_writer.proofs.dna_length.Statement.{statement}

@@ -6,8 +6,7 @@ use native.Mathlib.Omega.{arith}
 use lib.ListN.{length}
 use borrow.Author.Needs.{needs}
 use Rattle.base.specs.Paste.{pasted}
-use Rattle.format.specs.EncodeAnswer.{EncodeInput}
-use Rattle.format.specs.EncodeAnswer.{lent}
+use Rattle.format.specs.EncodeAnswer.{EncodeInput, lent}
 use Rattle.dna_writer.specs.Section.{recordsOf, dnaBytes, nBytes}
 use Rattle.dna_writer.specs.Writer.{recordsFrom}
 use Rattle.dna_writer.proofs.LentLaws.{WellLent, well-lent}

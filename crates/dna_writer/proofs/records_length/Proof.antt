@@ -8,8 +8,7 @@ use native.Mathlib.Omega.{arith}
 use mathlib.Core.List.{_∷_, flatMap}
 use lib.ListN.{length, getD}
 use borrow.Author.Needs.{needs}
-use Rattle.format.specs.EncodeAnswer.{EncodeInput}
-use Rattle.format.specs.EncodeAnswer.{lent}
+use Rattle.format.specs.EncodeAnswer.{EncodeInput, lent}
 use Rattle.dna_writer.specs.Section.{recordsOf, bytesOf}
 use Rattle.dna_writer.specs.Writer.{recordsFrom}
 use Rattle.dna_writer.proofs.LentLaws.{WellLent, well-lent, lies-at}

@@ -2,8 +2,7 @@
 -- nothing.
 use borrow.Author.Needs.{needs}
 use Rattle.format.specs.Answered.{outcomeOfEncode}
-use Rattle.format.specs.EncodeAnswer.{EncodeInput}
-use Rattle.format.specs.EncodeAnswer.{lent}
+use Rattle.format.specs.EncodeAnswer.{EncodeInput, lent}
 use Rattle.encoder.proofs.InputLaws.{number-refused, answer-refused}
 use Rattle.encoder.proofs.encode.Statement.{statement}
 use Rattle.encoder.proofs.encode.Tie as tie

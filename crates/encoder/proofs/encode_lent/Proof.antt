@@ -9,9 +9,8 @@ use Rattle.base.specs.Groups.{groupCount}
 use Rattle.dna.specs.Counts.{zeroCounts}
 use Rattle.format.specs.Answered.{outcomeOfEncode}
 use Rattle.format.specs.Outcome.{acceptedBlock}
-use Rattle.format.specs.EncodeAnswer.{EncodeInput, blockOf}
+use Rattle.format.specs.EncodeAnswer.{EncodeInput, lent, blockOf}
 use Rattle.format.specs.Demands.{LentFits}
-use Rattle.format.specs.EncodeAnswer.{lent}
 use Rattle.encoder.specs.Lengths.{LengthsKnown}
 use Rattle.encoder.proofs.InputLaws.{plain, number-short, number-none, answer-refused}
 use Rattle.encoder.proofs.InputLaws.{answer-written, InputFits, input-fits}

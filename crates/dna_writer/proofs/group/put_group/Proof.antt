@@ -11,8 +11,7 @@ use borrow.Author.Needs.{needs}
 use Rattle.base.specs.Paste.{pasted}
 use Rattle.base.proofs.PastingLaws.{Pasting, pasting-start}
 use Rattle.format.specs.RuleRecord.{Written}
-use Rattle.format.specs.EncodeAnswer.{EncodeInput}
-use Rattle.format.specs.EncodeAnswer.{lent}
+use Rattle.format.specs.EncodeAnswer.{EncodeInput, lent}
 use Rattle.dna_writer.specs.Writer.{recordsFrom}
 use Rattle.dna_writer.proofs.LentLaws.{WellLent, well-lent, lies-at}
 use Rattle.dna_writer.proofs.RecordSteps.{recordOf, records-next, length-records}
