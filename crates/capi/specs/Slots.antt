@@ -20,7 +20,8 @@ slots outcome =
     ∷ outcome .counts .differences
     ∷ replicate 8 0
 
--- Those of an accepted block or file, for an inner function; `size` is the length of the one or the blocks of the other.
+-- Those of an accepted block or file, for an inner function; `size` is the length of the one or the
+-- blocks of the other.
 unfoldable pub acceptedSlots : (size : ℕ) (counts : Counted) → List ℕ
 acceptedSlots size counts =
     0

@@ -1,6 +1,6 @@
-// The public calls as C functions, as include/ora.h declares them: a slice is a pointer and a length,
-// and the answer sixteen numbers. Each is thin over the crate ora; the contracts cite the same
-// definitions, through specs/Slots.antt, and none has a `requires`.
+// The public calls as C functions, as include/ora.h declares them: a slice is a pointer and a
+// length, and the answer sixteen numbers. Each is thin over the crate ora; the contracts cite the
+// same definitions, through specs/Slots.antt, and none has a `requires`.
 use dna::Counts;
 use format::BlockOutcome;
 use format::EncodeOutcome;

@@ -130,7 +130,8 @@ pub fn ends_part(bytes: &[u8], header: CaseHeader) -> &[u8]
 
 // The positions that are proposed, four bytes each.
 pub fn positions_part(bytes: &[u8], header: CaseHeader) -> &[u8]
-    ensures { λ r. ⌜ now r ≡ part (now (bytes .entry)) (positionsStart header) (4 * header .positions) ⌝ }
+    ensures { λ r. ⌜ now r
+        ≡ part (now (bytes .entry)) (positionsStart header) (4 * header .positions) ⌝ }
 {
     bytes_from(bytes, positions_start(header), 4 * size32(header.positions))
 }

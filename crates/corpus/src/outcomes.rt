@@ -1,5 +1,5 @@
-// The nine columns of an outcome (rust/second/CORPUS.md): number, block, read, blocks, length, and the
-// four counts.
+// The nine columns of an outcome (rust/second/CORPUS.md): number, block, read, blocks, length, and
+// the four counts.
 use crate::lines::put_column;
 use dna::Counts;
 use format::BlockOutcome;

@@ -1,6 +1,6 @@
-// The specification's sums on lone differences: a read of 2,000 letters A at the start of a reference
-// of 2,000 bases A, with a C at one place. At 64 it takes a filler and the difference, at 127 two
-// fillers, at 1953 thirty; at 1954 it would take 32 entries, and the read goes raw.
+// The specification's sums on lone differences: a read of 2,000 letters A at the start of a
+// reference of 2,000 bases A, with a C at one place. At 64 it takes a filler and the difference, at
+// 127 two fillers, at 1953 thirty; at 1954 it would take 32 entries, and the read goes raw.
 use crate::show::UNTOUCHED;
 use crate::show::show;
 ghost use mathlib.Core.Path.{_≡_};

@@ -1,6 +1,6 @@
-// Judging a file (01, Numbers of refusal: a file is judged block by block): one pass over its bytes,
-// nothing copied. The contract of the public call cites specs/FileAnswer.antt of format; it has no
-// `requires`.
+// Judging a file (01, Numbers of refusal: a file is judged block by block): one pass over its
+// bytes, nothing copied. The contract of the public call cites specs/FileAnswer.antt of format; it
+// has no `requires`.
 use blocks::validate_block;
 use dna::Counts;
 use dna::refusals::REFERENCE_SIZE_WRONG;

@@ -1,5 +1,5 @@
--- 01's example (Sums done by hand: the listing program), and files that are empty or refused. The proof,
--- by computation, is proofs/ExampleHolds.antt.
+-- 01's example (Sums done by hand: the listing program), and files that are empty or refused. The
+-- proof, by computation, is proofs/ExampleHolds.antt.
 use Prim.Native.Nat.{ℕ}
 use mathlib.Core.Path.{_≡_}
 use mathlib.Core.List.{List, [], _∷_, _++_}

@@ -11,8 +11,8 @@ unfoldable pub text : (characters : String) → List ℕ
 text ended = []
 text (character then characters) = code character ∷ text characters
 
--- The last `most` decimal digits of a number: those of a tenth of it where it is 10 or more, then its
--- own last digit.
+-- The last `most` decimal digits of a number: those of a tenth of it where it is 10 or more, then
+-- its own last digit.
 unfoldable pub digitsOf : (most number : ℕ) → List ℕ
 digitsOf zero number = []
 digitsOf (suc most) number =

@@ -58,8 +58,8 @@ fn least(a: usize, b: usize) -> usize
     b
 }
 
-// Lists an opened file, of which so many bytes are read. Its blocks are counted in 64 bits, which no
-// file uses up.
+// Lists an opened file, of which so many bytes are read. Its blocks are counted in 64 bits, which
+// no file uses up.
 pub fn list_blocks(
     fd: i32,
     path: &[u8],

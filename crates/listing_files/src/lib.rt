@@ -1,7 +1,7 @@
-// The listing program over files: a reference file and a file of blocks, by their paths, and the text
-// on standard output. What is printed is crate lines'; here files are read and text is written. What
-// cannot be opened, read or written is said on standard error, and then no line `end` or `refused` is
-// printed.
+// The listing program over files: a reference file and a file of blocks, by their paths, and the
+// text on standard output. What is printed is crate lines'; here files are read and text is
+// written. What cannot be opened, read or written is said on standard error, and then no line `end`
+// or `refused` is printed.
 mod all_blocks;
 pub mod windows;
 

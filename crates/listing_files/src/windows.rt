@@ -1,5 +1,6 @@
 // A file of any length in a buffer, from which one block after the other is read. The buffer holds
-// more than one block may have, so that it is moved and filled only where a block might not be whole.
+// more than one block may have, so that it is moved and filled only where a block might not be
+// whole.
 use lines::turns::MAX_BYTES;
 ghost use mathlib.Core.Path.{_≡_};
 ghost use Prim.Native.Nat.{_-_, _≤_};
@@ -67,8 +68,8 @@ pub fn slide(buffer: &mut [u8], at: usize, end: usize)
     }
 }
 
-// The window once the bytes before `at` are done with: as much as one block may have, or all that is
-// left of the file.
+// The window once the bytes before `at` are done with: as much as one block may have, or all that
+// is left of the file.
 pub fn next_window(fd: i32, buffer: &mut [u8], at: usize, end: usize) -> Window
     requires { ⌜ at ≤ end ⌝ }
     requires { ⌜ end ≤ length (now buffer) ⌝ }

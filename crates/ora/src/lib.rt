@@ -1,8 +1,8 @@
-// The public calls. Each contract is an equation between the answer and a definition, with the final
-// content of every lent buffer, and none has a `requires`: any input is answered. Read
-// specs/BlockAnswer.antt, FileAnswer.antt and EncodeAnswer.antt of format for what each call answers.
-// The enums of the answers are put into the paper's terms by specs/Answered.antt there, the struct of
-// this interface by specs/Answers.antt.
+// The public calls. Each contract is an equation between the answer and a definition, with the
+// final content of every lent buffer, and none has a `requires`: any input is answered. Read
+// specs/BlockAnswer.antt, FileAnswer.antt and EncodeAnswer.antt of format for what each call
+// answers. The enums of the answers are put into the paper's terms by specs/Answered.antt there,
+// the struct of this interface by specs/Answers.antt.
 use format::BlockOutcome;
 use format::EncodeOutcome;
 use format::FileOutcome;
@@ -42,8 +42,9 @@ pub fn validate_block(bases: u64, reference: &[u8], input: &[u8]) -> BlockOutcom
     blocks::validate_block(bases, reference, input)
 }
 
-// Decodes the block at the input's start, with 1 to 22: the letters of its reads one after the other,
-// and the end of each, counted in letters. What lies past them stays; a refusal changes nothing.
+// Decodes the block at the input's start, with 1 to 22: the letters of its reads one after the
+// other, and the end of each, counted in letters. What lies past them stays; a refusal changes
+// nothing.
 pub fn decode(
     bases: u64,
     reference: &[u8],
@@ -65,8 +66,8 @@ pub fn decode(
 }
 
 // Judges a file block by block, with 1 to 21: the number of its blocks and the sums of their counts
-// modulo 2 ^ 64, or the first refusal with the block's index. It is this answer that demand 3 speaks
-// of.
+// modulo 2 ^ 64, or the first refusal with the block's index. It is this answer that demand 3
+// speaks of.
 pub fn validate(bases: u64, reference: &[u8], file: &[u8]) -> FileOutcome
     ensures { λ r. ⌜ (outcomeOfFile r
         ≡ validated bases (now (reference .entry)) (now (file .entry)))
@@ -79,8 +80,9 @@ pub fn validate(bases: u64, reference: &[u8], file: &[u8]) -> FileOutcome
 // ---- Writing
 
 // Writes the block that the fixed rule makes of these reads to the start of `out`, with 1 and 30 to
-// 34: its length in bytes, or the refusal. Letters and ends are as decode gives them; the other four
-// are proposals, one element a read. What lies past the block stays; a refusal changes nothing.
+// 34: its length in bytes, or the refusal. Letters and ends are as decode gives them; the other
+// four are proposals, one element a read. What lies past the block stays; a refusal changes
+// nothing.
 pub fn encode(
     bases: u64,
     reference: &[u8],
@@ -148,8 +150,8 @@ pub fn section_span(input: &[u8], number: u64) -> Span
     }
 }
 
-// The block's length by its header, with which a file is cut into blocks before they are judged; 0 if
-// the header earns one of 2 to 8.
+// The block's length by its header, with which a file is cut into blocks before they are judged; 0
+// if the header earns one of 2 to 8.
 pub fn block_length(input: &[u8]) -> u64
     ensures { λ r. ⌜ r ≡ lengthAnswer (now (input .entry)) ⌝ }
 {
