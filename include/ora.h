@@ -186,8 +186,9 @@ uint64_t ora_validate_block(uint64_t bases, const uint8_t *reference, size_t ref
                             uint64_t answer[ORA_ANSWER_SLOTS]);
 
 /*
- * Judges a file, block after block, up to the first refusal or the last byte. The empty file is accepted, unless the
- * reference is refused: so a call with an empty file judges the reference alone.
+ * Judges a file, block after block, up to the first refusal or the last byte. The empty file is
+ * accepted, unless the reference is refused: so a call with an empty file judges the reference
+ * alone.
  *
  * Refusals 1 to 21, with the index of the refused block. Answer: number of blocks, and the sums of
  * reads, letters, entries and differences.
