@@ -24,7 +24,7 @@ ghost use Rattle.reference.specs.Stretch.{StretchFits};
 ghost use Rattle.reference.specs.Tables.{wordTable};
 
 #[no_mangle]
-pub extern "C" fn bench_fill_words(forward: bool, table: &mut [u32])
+pub extern "C" fn bench_fill_words(forward: bool, table: &mut [u64])
     requires { ⌜ length (now table) ≡ 256 ⌝ }
     ensures { λ _. ⌜ now (table .exit) ≡ wordTable forward ⌝ }
 {
@@ -36,7 +36,7 @@ pub extern "C" fn bench_put_stretch_forward(
     reference: &[u8],
     leftmost: usize,
     bases: usize,
-    table: &[u32; 256],
+    table: &[u64; 256],
     out: &mut [u8],
     at: usize,
 )
@@ -53,7 +53,7 @@ pub extern "C" fn bench_put_stretch_reverse(
     reference: &[u8],
     leftmost: usize,
     bases: usize,
-    table: &[u32; 256],
+    table: &[u64; 256],
     out: &mut [u8],
     at: usize,
 )

@@ -181,7 +181,7 @@ fn walk_unwritten(bases: u64, reference: &[u8], input: &[u8], count: bool) -> Wa
     ensures { λ r. ⌜ r ≡ walkAnswer count (now (reference .entry))
         (blockWalk bases (now (input .entry))) ⌝ }
 {
-    let words = [0u32; 256];
+    let words = [0u64; 256];
     let pairs = [0u16; 256];
     let mut letters = [0u8; 1];
     let mut ends = [0u32; 1];
@@ -206,8 +206,8 @@ fn walk_block(
     input: &[u8],
     count: bool,
     write: bool,
-    forward_table: &[u32; 256],
-    reverse_table: &[u32; 256],
+    forward_table: &[u64; 256],
+    reverse_table: &[u64; 256],
     pair_table: &[u16; 256],
     letters: &mut [u8],
     ends: &mut [u32],

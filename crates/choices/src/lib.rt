@@ -49,8 +49,8 @@ pub fn choose(
     strand: u8,
     left: u8,
     right: u8,
-    forward_table: &[u32; 256],
-    reverse_table: &[u32; 256],
+    forward_table: &[u64; 256],
+    reverse_table: &[u64; 256],
     list: &mut [u8],
 ) -> Chosen
     requires { ⌜ (referenceSizeWrong bases (now reference) ≡ false)
@@ -112,8 +112,8 @@ fn put_place(
     strand: u8,
     left: u8,
     right: u8,
-    forward_table: &[u32; 256],
-    reverse_table: &[u32; 256],
+    forward_table: &[u64; 256],
+    reverse_table: &[u64; 256],
     list: &mut [u8],
 ) -> usize
     requires { ⌜ (ReadLies (now letters) from to)

@@ -32,8 +32,8 @@ pub fn dna_length(
     strands: &[u8],
     lefts: &[u8],
     rights: &[u8],
-    forward_table: &[u32; 256],
-    reverse_table: &[u32; 256],
+    forward_table: &[u64; 256],
+    reverse_table: &[u64; 256],
 ) -> usize
     requires { ⌜ (lentNumber bases (now reference)
         (lent (now letters) (now ends) (now positions) (now strands) (now lefts) (now rights) 0 0)
@@ -71,8 +71,8 @@ fn records_length(
     strands: &[u8],
     lefts: &[u8],
     rights: &[u8],
-    forward_table: &[u32; 256],
-    reverse_table: &[u32; 256],
+    forward_table: &[u64; 256],
+    reverse_table: &[u64; 256],
     list: &mut [u8],
 ) -> usize
     requires { ⌜ (lentNumber bases (now reference)
@@ -133,8 +133,8 @@ pub fn put_dna(
     strands: &[u8],
     lefts: &[u8],
     rights: &[u8],
-    forward_table: &[u32; 256],
-    reverse_table: &[u32; 256],
+    forward_table: &[u64; 256],
+    reverse_table: &[u64; 256],
     out: &mut [u8],
     at: usize,
     n_at: usize,
@@ -188,8 +188,8 @@ fn put_groups(
     strands: &[u8],
     lefts: &[u8],
     rights: &[u8],
-    forward_table: &[u32; 256],
-    reverse_table: &[u32; 256],
+    forward_table: &[u64; 256],
+    reverse_table: &[u64; 256],
     list: &mut [u8],
     out: &mut [u8],
     at: usize,

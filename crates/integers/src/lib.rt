@@ -130,11 +130,18 @@ pub fn put_u32(out: &mut [u8], at: usize, x: u32)
     put_u16(out, at + 2, (x / 65536) as u16);
 }
 
-// Writes the eight bytes of x at `at`.
+// Writes the eight bytes of x at `at`. The compiler makes one store of them only where each is taken
+// from x itself, not from a half.
 pub fn put_u64(out: &mut [u8], at: usize, x: u64)
     requires { ⌜ at + 8 ≤ length (now out) ⌝ }
     ensures { λ _. ⌜ now (out .exit) ≡ pasted (now (out .entry)) at (leBytes 8 x) ⌝ }
 {
-    put_u32(out, at, (x % 4294967296) as u32);
-    put_u32(out, at + 4, (x / 4294967296) as u32);
+    out[at] = (x % 256) as u8;
+    out[at + 1] = (x / 0x100 % 256) as u8;
+    out[at + 2] = (x / 0x1_0000 % 256) as u8;
+    out[at + 3] = (x / 0x100_0000 % 256) as u8;
+    out[at + 4] = (x / 0x1_0000_0000 % 256) as u8;
+    out[at + 5] = (x / 0x100_0000_0000 % 256) as u8;
+    out[at + 6] = (x / 0x1_0000_0000_0000 % 256) as u8;
+    out[at + 7] = (x / 0x100_0000_0000_0000 % 256) as u8;
 }

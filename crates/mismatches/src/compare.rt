@@ -1,15 +1,14 @@
 // The next letter of a read that differs from the reference. Where the reference is at the boundary
 // of a byte, eight letters are compared at once with two words of the strand's table.
-use integers::size8;
 use integers::u64_at;
-use integers::wide64;
 use reference::letter_of_code;
 use reference::strand_base;
 use reference::stretch_index;
+use reference::two_words;
 ghost use mathlib.Core.Path.{_≡_};
 ghost use mathlib.Core.Bool.{true, false};
 ghost use Prim.Native.Nat.{_+_, _-_, _*_, _%_, _≤_, _<_};
-ghost use lib.ListN.{length, getD};
+ghost use lib.ListN.{length};
 ghost use Rattle.reference.specs.Stretch.{StretchFits};
 ghost use Rattle.reference.specs.Tables.{wordTable};
 ghost use Rattle.mismatches.specs.Places.{NoneBetween, FirstWhere};
@@ -25,8 +24,8 @@ pub fn next_difference(
     reference: &[u8],
     forward: bool,
     leftmost: usize,
-    forward_table: &[u32; 256],
-    reverse_table: &[u32; 256],
+    forward_table: &[u64; 256],
+    reverse_table: &[u64; 256],
 ) -> usize
     requires { ⌜ (start + aligned ≤ length (now letters))
         × (StretchFits (now reference) leftmost aligned)
@@ -70,8 +69,8 @@ fn skip_equal(
     reference: &[u8],
     forward: bool,
     leftmost: usize,
-    forward_table: &[u32; 256],
-    reverse_table: &[u32; 256],
+    forward_table: &[u64; 256],
+    reverse_table: &[u64; 256],
 ) -> usize
     requires { ⌜ (start + aligned ≤ length (now letters))
         × (StretchFits (now reference) leftmost aligned)
@@ -119,7 +118,7 @@ fn skip_forward(
     aligned: usize,
     reference: &[u8],
     leftmost: usize,
-    table: &[u32; 256],
+    table: &[u64; 256],
 ) -> usize
     requires { ⌜ (start + aligned ≤ length (now letters))
         × (StretchFits (now reference) leftmost aligned)
@@ -151,7 +150,7 @@ fn skip_reverse(
     aligned: usize,
     reference: &[u8],
     leftmost: usize,
-    table: &[u32; 256],
+    table: &[u64; 256],
 ) -> usize
     requires { ⌜ (start + aligned ≤ length (now letters))
         × (StretchFits (now reference) leftmost aligned)
@@ -173,14 +172,6 @@ fn skip_reverse(
         place += 8;
     }
     place
-}
-
-// The eight letters of two bytes of the reference, as one number, by the table of a strand.
-fn two_words(table: &[u32; 256], first: u8, second: u8) -> u64
-    ensures { λ r. ⌜ r ≡ getD (now (table .entry)) first 0
-        + 4294967296 * getD (now (table .entry)) second 0 ⌝ }
-{
-    wide64(table[size8(first)]) + 4294967296 * wide64(table[size8(second)])
 }
 
 // Whether an aligned letter differs from the reference; a letter under N does not.

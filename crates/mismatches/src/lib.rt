@@ -39,8 +39,8 @@ pub fn put_entries(
     reference: &[u8],
     forward: bool,
     leftmost: usize,
-    forward_table: &[u32; 256],
-    reverse_table: &[u32; 256],
+    forward_table: &[u64; 256],
+    reverse_table: &[u64; 256],
     list: &mut [u8],
 ) -> usize
     requires { ⌜ (AlignedFits (now letters) start aligned)

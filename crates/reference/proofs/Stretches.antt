@@ -7,12 +7,13 @@ use mathlib.Core.List.{List}
 use lib.ListN.{length, getD, set}
 use Rattle.base.specs.Numbers.{leBytes}
 use Rattle.base.specs.Paste.{pasted}
+use Rattle.base.proofs.NumberLaws.{pasted-leBytes}
 use Rattle.base.proofs.FilledLaws.{Filled, filled-none, filled-more, filled-next, filled-all}
 use Rattle.dna.specs.Reference.{strandBase, stretchIndex, letterOfCode, stretchLetters}
 use Rattle.dna.proofs.ReferenceLaws.{length-stretchLetters, getD-stretchLetters, pieceLeftmost}
 use Rattle.dna.proofs.ReferenceLaws.{stretch-piece}
 use Rattle.reference.specs.Tables.{wordTable}
-use Rattle.reference.proofs.Words.{basesByte-whole, table-letters}
+use Rattle.reference.proofs.Words.{basesByte-whole, table-letters, table-fits}
 
 module _ (reference : List ℕ) (forward : Bool) (leftmost bases : ℕ) where
   -- The first `done` letters of the stretch stand in the buffer.
@@ -61,18 +62,26 @@ module _ (reference : List ℕ) (forward : Bool) (leftmost bases : ℕ) where
       (table-letters table reference forward (4 * i) byte lent (basesByte-whole reference (4 * i) i byte refl here small)))
       there start (omega arith) inside (omega arith)
 
-  -- The next eight letters, from two bytes.
-  pub pair-written : {old now : List ℕ} {at : ℕ} (table half new : List ℕ) (place k i j one other : ℕ)
+  -- The next eight letters, from two bytes, as one number.
+  pub pair-written : {old now : List ℕ} {at : ℕ} (table new : List ℕ) (place k i j one other words : ℕ)
       → table ≡ wordTable forward → Written old now at (8 * k) → at + bases ≤ length old → 8 * k + 8 ≤ bases
-      → half ≡ pasted now place (leBytes 4 (getD table one 0))
-      → new ≡ pasted half (place + 4) (leBytes 4 (getD table other 0)) → place ≡ at + 8 * k
-      → one ≡ getD reference i 0 → one < 256 → other ≡ getD reference j 0 → other < 256
+      → words ≡ getD table one 0 + 4294967296 * getD table other 0 → new ≡ pasted now place (leBytes 8 words)
+      → place ≡ at + 8 * k → one ≡ getD reference i 0 → one < 256 → other ≡ getD reference j 0 → other < 256
       → 4 * i ≡ pieceLeftmost forward leftmost bases (8 * k) 4 → 4 * j ≡ pieceLeftmost forward leftmost bases (8 * k + 4) 4
       → Written old new at (8 * (k + 1))
-  pair-written table half new place k i j one other lent written room inside e f there here small here′ small′ start start′ =
+  pair-written {old} {now} table new place k i j one other words lent written room inside both e there here small
+      here′ small′ start start′ =
+      let low : ℕ = getD table one 0 in
+      let fits = table-fits table forward lent in
+      let half : List ℕ = pasted now place (leBytes 4 low) in
+      let joined =
+      pasted-leBytes 4 4 now half (pasted half (place + 4) (leBytes 4 (getD table other 0))) place (place + 4) words low
+      (getD table other 0) (omega (arith, written .sized)) refl
+      (omega (arith, fits .below one, fits .below other)) (omega (arith, fits .below one, fits .below other)) refl refl in
       byte-written table new (place + 4) (8 * k + 4) j other (8 * (k + 1)) lent
-      (byte-written table half place (8 * k) i one (8 * k + 4) lent written room (omega arith) e there here small start refl)
-      room (omega arith) f (omega arith) here′ small′ start′ (omega arith)
+      (byte-written table half place (8 * k) i one (8 * k + 4) lent written room (omega arith) refl there here small start
+      refl)
+      room (omega arith) (e ∙ sym joined) (omega arith) here′ small′ start′ (omega arith)
 
   -- The first four letters, whole bytes after them, and twice four at the end, where none leaves a gap.
   pub ends-and-bytes : (old first middle almost new : List ℕ)

@@ -1,17 +1,17 @@
 -- The table's word of the byte of four bases holds their letters. Assumes nothing.
 use mathlib.Core.Path.{_≡_, sym, ap, _∙_, subst}
-use Prim.Native.Nat.{ℕ, _+_, _*_, _/_, _%_, _<_}
+use Prim.Native.Nat.{ℕ, _+_, _*_, _/_, _%_, _<_, _^_}
 use native.Mathlib.Nat.{zero-lt-suc}
 use native.Mathlib.Omega.{arith}
 use mathlib.Core.Bool.{Bool}
 use mathlib.Core.List.{List, [], _∷_}
-use lib.ListN.{length, getD}
+use lib.ListN.{length, getD, List·getD-eq-default}
 use Rattle.base.specs.Lists.{AllBytes}
 use Rattle.base.specs.Numbers.{le, leBytes}
 use Rattle.base.specs.Packed.{digit, symbolAt}
 use Rattle.base.specs.Paste.{pasted}
-use Rattle.base.proofs.ListLaws.{length-build, getD-build}
-use Rattle.base.proofs.NumberLaws.{length-leBytes, leBytes-le}
+use Rattle.base.proofs.ListLaws.{length-build, getD-build, by-order}
+use Rattle.base.proofs.NumberLaws.{length-leBytes, leBytes-le, le-below}
 use Rattle.base.proofs.AtLaws.{at-self, at-same}
 use Rattle.base.proofs.PackedLaws.{byteOf-below, byteOf-cong, digit-byteOf, byteOf-digit}
 use Rattle.base.proofs.PasteLaws.{pasted-whole}
@@ -19,7 +19,7 @@ use Rattle.dna.specs.Reference.{referenceBase, stretchLetters}
 use Rattle.dna.proofs.ReferenceLaws.{referenceBase-below, length-stretchLetters}
 use Rattle.dna.proofs.ReferenceLaws.{stretchLetters-bytes, stretchLetters-same}
 use Rattle.reference.specs.Stretch.{basesByte}
-use Rattle.reference.specs.Tables.{byteWord, wordTable}
+use Rattle.reference.specs.Tables.{byteWord, wordTable, WordsFit}
 
 -- ---- A word and its bytes
 
@@ -75,6 +75,23 @@ byteWord-is forward byte word buffer letters size e is =
     is
     ∙ ap (λ (l : List ℕ). le 4 l 0)
     (e ∙ pasted-whole buffer part (length-stretchLetters (byte ∷ []) forward 0 4 ∙ sym size))
+
+-- A word is below 2 ^ 32.
+byteWord-below : (forward : Bool) (byte : ℕ) → byteWord forward byte < 2 ^ 32
+unfolding byteWord
+byteWord-below forward byte = le-below 4 _ 0 (stretchLetters-bytes (byte ∷ []) forward 0 4)
+
+-- So a table's words have their room.
+pub table-fits : (table : List ℕ) (forward : Bool) → table ≡ wordTable forward → WordsFit table
+table-fits table forward lent = record {
+  below = λ byte.
+      rw lent
+      (by-order byte 256
+      (λ small. subst (λ (w : ℕ). w < 2 ^ 32) (sym (getD-wordTable forward byte small)) (byteWord-below forward byte))
+      (λ past.
+      let size = length-wordTable forward in
+      subst (λ (w : ℕ). w < 2 ^ 32) (sym (List·getD-eq-default (wordTable forward) 0 (omega arith))) (omega arith)));
+}
 
 -- ---- The letters of a word
 

@@ -2,13 +2,15 @@
 // contracts cite dna/specs/Reference.antt; the tables of words are those of specs/Tables.antt, made
 // once and lent to each call.
 use integers::put_u32;
+use integers::put_u64;
 use integers::size8;
 use integers::u32_at;
+use integers::wide64;
 use packing::symbol2;
 ghost use mathlib.Core.Path.{_≡_};
 ghost use mathlib.Core.Bool.{Bool, true, false};
 ghost use Prim.Native.Nat.{_+_, _-_, _*_, _/_, _<_, _≤_};
-ghost use lib.ListN.{length};
+ghost use lib.ListN.{length, getD};
 ghost use Rattle.base.specs.Paste.{pasted};
 ghost use Rattle.dna.specs.Reference.{
   maxReferenceBases,
@@ -21,7 +23,7 @@ ghost use Rattle.dna.specs.Reference.{
   stretchLetters,
 };
 ghost use Rattle.reference.specs.Stretch.{StretchFits, basesByte};
-ghost use Rattle.reference.specs.Tables.{byteWord, wordTable};
+ghost use Rattle.reference.specs.Tables.{byteWord, wordTable, WordsFit};
 
 // The most bases that a reference may have.
 pub const MAX_REFERENCE_BASES: u64 = 4_294_967_295;
@@ -74,22 +76,22 @@ pub fn letter_of_code(code: u8) -> u8
 }
 
 // The table of a strand, which the caller makes once and lends to each call.
-pub fn word_table(forward: bool) -> [u32; 256]
+pub fn word_table(forward: bool) -> [u64; 256]
     ensures { λ r. ⌜ r ≡ wordTable forward ⌝ }
 {
-    let mut table = [0u32; 256];
+    let mut table = [0u64; 256];
     fill_words(forward, &mut table);
     table
 }
 
 // Fills a table of 256 words with those of a strand.
-pub fn fill_words(forward: bool, table: &mut [u32])
+pub fn fill_words(forward: bool, table: &mut [u64])
     requires { ⌜ length (now table) ≡ 256 ⌝ }
     ensures { λ _. ⌜ now (table .exit) ≡ wordTable forward ⌝ }
 {
     let mut byte: usize = 0;
     while byte < 256 {
-        table[byte] = byte_word(forward, byte as u8);
+        table[byte] = wide64(byte_word(forward, byte as u8));
         byte += 1;
     }
 }
@@ -100,8 +102,8 @@ pub fn put_stretch(
     forward: bool,
     leftmost: usize,
     bases: usize,
-    forward_table: &[u32; 256],
-    reverse_table: &[u32; 256],
+    forward_table: &[u64; 256],
+    reverse_table: &[u64; 256],
     out: &mut [u8],
     at: usize,
 )
@@ -126,7 +128,7 @@ pub fn put_stretch_forward(
     reference: &[u8],
     leftmost: usize,
     bases: usize,
-    table: &[u32; 256],
+    table: &[u64; 256],
     out: &mut [u8],
     at: usize,
 )
@@ -156,7 +158,7 @@ pub fn put_stretch_reverse(
     reference: &[u8],
     leftmost: usize,
     bases: usize,
-    table: &[u32; 256],
+    table: &[u64; 256],
     out: &mut [u8],
     at: usize,
 )
@@ -186,7 +188,7 @@ fn put_pairs_forward(
     reference: &[u8],
     first: usize,
     pairs: usize,
-    table: &[u32; 256],
+    table: &[u64; 256],
     out: &mut [u8],
     at: usize,
 )
@@ -199,12 +201,9 @@ fn put_pairs_forward(
 {
     let mut k: usize = 0;
     while k < pairs {
-        put_u32(out, at + 8 * k, table[size8(reference[first + 2 * k])]);
-        put_u32(
-            out,
-            at + 8 * k + 4,
-            table[size8(reference[first + 2 * k + 1])],
-        );
+        let byte = first + 2 * k;
+        let words = two_words(table, reference[byte], reference[byte + 1]);
+        put_u64(out, at + 8 * k, words);
         k += 1;
     }
 }
@@ -214,7 +213,7 @@ fn put_pairs_reverse(
     reference: &[u8],
     end: usize,
     pairs: usize,
-    table: &[u32; 256],
+    table: &[u64; 256],
     out: &mut [u8],
     at: usize,
 )
@@ -229,22 +228,32 @@ fn put_pairs_reverse(
     let mut byte = end;
     let mut k: usize = 0;
     while k < pairs {
-        put_u32(out, at + 8 * k, table[size8(reference[byte - 1])]);
-        put_u32(out, at + 8 * k + 4, table[size8(reference[byte - 2])]);
+        let words = two_words(table, reference[byte - 1], reference[byte - 2]);
+        put_u64(out, at + 8 * k, words);
         byte -= 2;
         k += 1;
     }
 }
 
 // Writes the letters of the four bases from an index on, on the strand whose table is lent.
-fn put_four(reference: &[u8], index: usize, table: &[u32; 256], out: &mut [u8], at: usize)
-    requires { ⌜ (StretchFits (now reference) index 4) × (at + 4 ≤ length (now out)) ⌝ }
+fn put_four(reference: &[u8], index: usize, table: &[u64; 256], out: &mut [u8], at: usize)
+    requires { ⌜ (StretchFits (now reference) index 4) × (at + 4 ≤ length (now out))
+        × (WordsFit (now table)) ⌝ }
     ensures { λ _. ⌜ ((forward : Bool) → now (table .entry) ≡ wordTable forward
         → now (out .exit)
         ≡ pasted (now (out .entry)) at
         (stretchLetters (now (reference .entry)) forward index 4)) ⌝ }
 {
-    put_u32(out, at, table[bases_byte(reference, index)]);
+    put_u32(out, at, table[bases_byte(reference, index)] as u32);
+}
+
+// The eight letters of two bytes of the reference, as one number, by the table of a strand.
+pub fn two_words(table: &[u64; 256], first: u8, second: u8) -> u64
+    requires { ⌜ WordsFit (now table) ⌝ }
+    ensures { λ r. ⌜ r ≡ getD (now (table .entry)) first 0
+        + 4294967296 * getD (now (table .entry)) second 0 ⌝ }
+{
+    table[size8(first)] + 4294967296 * table[size8(second)]
 }
 
 // The byte of the four bases from an index on: no branch, and no read past the last of them.

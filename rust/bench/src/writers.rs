@@ -4,21 +4,21 @@
 /// The letters of the base codes 0 to 3.
 const LETTERS: [u8; 4] = *b"ACGT";
 
-/// The words of the 256 bytes on one strand, four letters each.
-pub type Table = [u32; 256];
+/// The words of the 256 bytes on one strand, four letters each, in the lower half of a number.
+pub type Table = [u64; 256];
 
 /// Which stretch of the reference: its lowest index.
 pub type Writer = fn(reference: &[u8], leftmost: usize, table: &Table, out: &mut [u8]);
 
 mod proved {
     extern "C" {
-        pub fn bench_fill_words(forward: bool, table: *mut u32, length: usize);
+        pub fn bench_fill_words(forward: bool, table: *mut u64, length: usize);
         pub fn bench_put_stretch_forward(
             reference: *const u8,
             reference_length: usize,
             leftmost: usize,
             bases: usize,
-            table: *const u32,
+            table: *const u64,
             out: *mut u8,
             out_length: usize,
             at: usize,
@@ -28,7 +28,7 @@ mod proved {
             reference_length: usize,
             leftmost: usize,
             bases: usize,
-            table: *const u32,
+            table: *const u64,
             out: *mut u8,
             out_length: usize,
             at: usize,
@@ -54,7 +54,7 @@ pub fn plain_table(forward: bool) -> Table {
         } else {
             plain_reverse(&[byte as u8], 0, &mut letters);
         }
-        *word = u32::from_le_bytes(letters);
+        *word = u32::from_le_bytes(letters) as u64;
     }
     table
 }
@@ -133,7 +133,7 @@ unsafe fn eight(reference: *const u8, index: usize) -> (usize, usize) {
 /// Eight letters in one write.
 #[inline(always)]
 unsafe fn write(table: &Table, first: usize, second: usize, out: *mut u8) {
-    let word = *table.get_unchecked(first) as u64 | (*table.get_unchecked(second) as u64) << 32;
+    let word = *table.get_unchecked(first) | *table.get_unchecked(second) << 32;
     (out as *mut u64).write_unaligned(word.to_le());
 }
 

@@ -29,11 +29,14 @@ cast-byte-word c = search needs
 byte-word-requires : tie.Need-byte-word-requires Inv-loop μ-loop
 byte-word-requires c κs = search needs
 
+wide64-requires : tie.Need-wide64-requires Inv-loop μ-loop
+wide64-requires c κs = search needs
+
 mul-table : tie.Need-mul-table Inv-loop μ-loop
 mul-table c = search needs
 
 slice-write-table : tie.Need-slice-write-table Inv-loop μ-loop
-slice-write-table c = omega (arith, c .before .before .loop .inv .1 .sized)
+slice-write-table c = omega (arith, c .before .before .before .loop .inv .1 .sized)
 
 add-byte : tie.Need-add-byte Inv-loop μ-loop
 add-byte c = search needs
@@ -43,15 +46,17 @@ loop-less c = search needs
 
 loop-again : tie.Need-loop-again Inv-loop μ-loop
 loop-again c =
-    let turn = c .before .before in
+    let word = c .before in
+    let turn = word .before .before in
     let l = turn .loop in
     let forward = turn .before .before .args .forward in
     let size = length-wordTable forward in (
       omega arith,
-      filled-next (l .byte) (c .byte-word .result) (l .inv .1) (omega arith) (omega arith)
+      filled-next (l .byte) (c .wide64 .result) (l .inv .1) (omega arith) (omega arith)
           (omega arith)
-          (c .byte-word .ensures
-          ∙ sym (getD-wordTable forward (l .byte) (c .before .loop-test .taken))),
+          (c .wide64 .ensures .0
+          ∙ word .byte-word .ensures
+          ∙ sym (getD-wordTable forward (l .byte) (word .before .loop-test .taken))),
     )
 
 same-length : tie.Need-same-length Inv-loop μ-loop
@@ -73,6 +78,7 @@ fill-words-spec =
     loop-holds
     cast-byte-word
     byte-word-requires
+    wide64-requires
     mul-table
     slice-write-table
     add-byte

@@ -1,6 +1,7 @@
 -- `reference::put_four` meets its contract: the table's word of the byte of the four bases holds
 -- their letters. Assumes nothing.
 use mathlib.Core.Path.{_∙_, ap}
+use native.Mathlib.Omega.{arith}
 use borrow.Author.Needs.{needs}
 use Rattle.base.specs.Paste.{pasted}
 use Rattle.reference.proofs.Words.{table-letters}
@@ -15,6 +16,12 @@ mul-put-u32 c = search needs
 
 element-copy-out-put-u32 : tie.Need-element-copy-out-put-u32
 element-copy-out-put-u32 c = search needs
+
+cast-put-u32 : tie.Need-cast-put-u32
+cast-put-u32 c =
+    let read = c .before in
+    let start = read .before .before .before .before in
+    omega (arith, start .pre .2 .below (read .bases-byte .result))
 
 put-u32-requires : tie.Need-put-u32-requires
 put-u32-requires c κs = search needs
@@ -40,6 +47,7 @@ put-four-spec =
     bases-byte-requires
     mul-put-u32
     element-copy-out-put-u32
+    cast-put-u32
     put-u32-requires
     same-length
     returns)

@@ -5,6 +5,7 @@ use native.Mathlib.Omega.{arith}
 use mathlib.Core.Bool.{true}
 use mathlib.Core.Path.{refl}
 use borrow.Author.Needs.{needs}
+use Rattle.reference.proofs.Words.{table-fits}
 use Rattle.reference.proofs.Stretches.{Written, written-none, pair-written, written-all}
 use Rattle.reference.proofs.put_pairs_forward.Statement.{statement}
 use Rattle.reference.proofs.put_pairs_forward.Tie as tie
@@ -23,69 +24,35 @@ loop-holds c =
       written-none (a .reference .now) true (4 * a .first) (8 * a .pairs) (a .out .now) (a .at),
     )
 
-mul-put-u32 : tie.Need-mul-put-u32 Inv-loop μ-loop
-mul-put-u32 c = search needs
+mul-byte : tie.Need-mul-byte Inv-loop μ-loop
+mul-byte c = search needs
 
-add-put-u32 : tie.Need-add-put-u32 Inv-loop μ-loop
-add-put-u32 c = search needs
+add-byte : tie.Need-add-byte Inv-loop μ-loop
+add-byte c = search needs
 
-mul-size8 : tie.Need-mul-size8 Inv-loop μ-loop
-mul-size8 c = search needs
+shared-slice-read-two-words : tie.Need-shared-slice-read-two-words Inv-loop μ-loop
+shared-slice-read-two-words c = search needs
 
-add-size8 : tie.Need-add-size8 Inv-loop μ-loop
-add-size8 c = search needs
+add-two-words : tie.Need-add-two-words Inv-loop μ-loop
+add-two-words c = search needs
 
-shared-slice-read-size8 : tie.Need-shared-slice-read-size8 Inv-loop μ-loop
-shared-slice-read-size8 c = search needs
+shared-slice-read-two-words-2 : tie.Need-shared-slice-read-two-words-2 Inv-loop μ-loop
+shared-slice-read-two-words-2 c = search needs
 
-size8-requires : tie.Need-size8-requires Inv-loop μ-loop
-size8-requires c κs = search needs
+two-words-requires : tie.Need-two-words-requires Inv-loop μ-loop
+two-words-requires c κs =
+    let start = c .before .before .before .before .before .before in
+    table-fits (start .args .table .now) true (start .pre .2)
 
-mul-put-u32-2 : tie.Need-mul-put-u32-2 Inv-loop μ-loop
-mul-put-u32-2 c = search needs
+mul-put-u64 : tie.Need-mul-put-u64 Inv-loop μ-loop
+mul-put-u64 c = search needs
 
-element-copy-out-put-u32 : tie.Need-element-copy-out-put-u32 Inv-loop μ-loop
-element-copy-out-put-u32 c = search needs
+add-put-u64 : tie.Need-add-put-u64 Inv-loop μ-loop
+add-put-u64 c = search needs
 
-put-u32-requires : tie.Need-put-u32-requires Inv-loop μ-loop
-put-u32-requires c κs =
+put-u64-requires : tie.Need-put-u64-requires Inv-loop μ-loop
+put-u64-requires c κs =
     let turn = c .before .before .before .before .before in
-    omega (arith, turn .loop .inv .1 .sized)
-
-mul-put-u32-3 : tie.Need-mul-put-u32-3 Inv-loop μ-loop
-mul-put-u32-3 c = search needs
-
-add-put-u32-2 : tie.Need-add-put-u32-2 Inv-loop μ-loop
-add-put-u32-2 c = search needs
-
-add-put-u32-3 : tie.Need-add-put-u32-3 Inv-loop μ-loop
-add-put-u32-3 c = search needs
-
-mul-size8-2 : tie.Need-mul-size8-2 Inv-loop μ-loop
-mul-size8-2 c = search needs
-
-add-size8-2 : tie.Need-add-size8-2 Inv-loop μ-loop
-add-size8-2 c = search needs
-
-add-size8-3 : tie.Need-add-size8-3 Inv-loop μ-loop
-add-size8-3 c = search needs
-
-shared-slice-read-size8-2 : tie.Need-shared-slice-read-size8-2 Inv-loop μ-loop
-shared-slice-read-size8-2 c = search needs
-
-size8-requires-2 : tie.Need-size8-requires-2 Inv-loop μ-loop
-size8-requires-2 c κs = search needs
-
-mul-put-u32-4 : tie.Need-mul-put-u32-4 Inv-loop μ-loop
-mul-put-u32-4 c = search needs
-
-element-copy-out-put-u32-2 : tie.Need-element-copy-out-put-u32-2 Inv-loop μ-loop
-element-copy-out-put-u32-2 c = search needs
-
-put-u32-requires-2 : tie.Need-put-u32-requires-2 Inv-loop μ-loop
-put-u32-requires-2 c κs =
-    let first = c .before .before .before .before .before .before in
-    let turn = first .before .before .before .before .before .before in
     omega (arith, turn .loop .inv .1 .sized)
 
 add-k : tie.Need-add-k Inv-loop μ-loop
@@ -96,22 +63,21 @@ loop-less c = search needs
 
 loop-again : tie.Need-loop-again Inv-loop μ-loop
 loop-again c =
-    let second = c .before .before in
-    let y = second .before .before .size82 in
-    let first = second .before .before .before .before .before .before .before in
-    let x = first .before .before .size8 in
-    let turn = first .before .before .before .before .before .before in
+    let stored = c .before .before in
+    let words = stored .before .before .two-words in
+    let turn = stored .before .before .before .before .before .before in
     let l = turn .loop in
+    let known = turn .before .before .shared-slice-known .given in
     let start = turn .before .before .before in
     let a = start .args in
-    let inside = first .before .before .before .before .before .loop-test .taken in (
+    let byte = a .first + 2 * l .k in
+    let inside = stored .before .before .before .before .before .loop-test .taken in (
       omega arith,
       pair-written (a .reference .now) true (4 * a .first) (8 * a .pairs) (a .table .now)
-          (first .put-u32 .last .0) (second .put-u322 .last .0) (a .at + 8 * l .k) (l .k)
-          (a .first + 2 * l .k) (a .first + 2 * l .k + 1) (x .result) (y .result)
+          (stored .put-u64 .last .0) (a .at + 8 * l .k) (l .k) byte (byte + 1) _ _ (words .result)
           (start .pre .2) (l .inv .1) (omega arith) (omega arith)
-          (first .put-u32 .ensures) (second .put-u322 .ensures) refl
-          (x .ensures .0) (x .ensures .1) (y .ensures .0) (y .ensures .1)
+          (words .ensures) (stored .put-u64 .ensures) refl
+          refl (omega (arith, known byte)) refl (omega (arith, known (byte + 1)))
           (omega arith) (omega arith),
     )
 
@@ -131,26 +97,15 @@ put-pairs-forward-spec =
     Inv-loop
     μ-loop
     loop-holds
-    mul-put-u32
-    add-put-u32
-    mul-size8
-    add-size8
-    shared-slice-read-size8
-    size8-requires
-    mul-put-u32-2
-    element-copy-out-put-u32
-    put-u32-requires
-    mul-put-u32-3
-    add-put-u32-2
-    add-put-u32-3
-    mul-size8-2
-    add-size8-2
-    add-size8-3
-    shared-slice-read-size8-2
-    size8-requires-2
-    mul-put-u32-4
-    element-copy-out-put-u32-2
-    put-u32-requires-2
+    mul-byte
+    add-byte
+    shared-slice-read-two-words
+    add-two-words
+    shared-slice-read-two-words-2
+    two-words-requires
+    mul-put-u64
+    add-put-u64
+    put-u64-requires
     add-k
     loop-less
     loop-again

@@ -5,6 +5,7 @@ use native.Mathlib.Omega.{arith}
 use mathlib.Core.Bool.{false}
 use mathlib.Core.Path.{_≡_, refl}
 use borrow.Author.Needs.{needs}
+use Rattle.reference.proofs.Words.{table-fits}
 use Rattle.reference.proofs.Stretches.{Written, written-none, pair-written, written-all}
 use Rattle.reference.proofs.put_pairs_reverse.Statement.{statement}
 use Rattle.reference.proofs.put_pairs_reverse.Tie as tie
@@ -26,60 +27,32 @@ loop-holds c =
       written-none (a .reference .now) false leftmost (8 * a .pairs) (a .out .now) (a .at),
     )
 
-mul-put-u32 : tie.Need-mul-put-u32 Inv-loop μ-loop
-mul-put-u32 c = search needs
+sub-two-words : tie.Need-sub-two-words Inv-loop μ-loop
+sub-two-words c = search needs
 
-add-put-u32 : tie.Need-add-put-u32 Inv-loop μ-loop
-add-put-u32 c = search needs
+shared-slice-read-two-words : tie.Need-shared-slice-read-two-words Inv-loop μ-loop
+shared-slice-read-two-words c = search needs
 
-sub-size8 : tie.Need-sub-size8 Inv-loop μ-loop
-sub-size8 c = search needs
+sub-two-words-2 : tie.Need-sub-two-words-2 Inv-loop μ-loop
+sub-two-words-2 c = search needs
 
-shared-slice-read-size8 : tie.Need-shared-slice-read-size8 Inv-loop μ-loop
-shared-slice-read-size8 c = search needs
+shared-slice-read-two-words-2 : tie.Need-shared-slice-read-two-words-2 Inv-loop μ-loop
+shared-slice-read-two-words-2 c = search needs
 
-size8-requires : tie.Need-size8-requires Inv-loop μ-loop
-size8-requires c κs = search needs
+two-words-requires : tie.Need-two-words-requires Inv-loop μ-loop
+two-words-requires c κs =
+    let start = c .before .before .before .before .before .before in
+    table-fits (start .args .table .now) false (start .pre .3)
 
-mul-put-u32-2 : tie.Need-mul-put-u32-2 Inv-loop μ-loop
-mul-put-u32-2 c = search needs
+mul-put-u64 : tie.Need-mul-put-u64 Inv-loop μ-loop
+mul-put-u64 c = search needs
 
-element-copy-out-put-u32 : tie.Need-element-copy-out-put-u32 Inv-loop μ-loop
-element-copy-out-put-u32 c = search needs
+add-put-u64 : tie.Need-add-put-u64 Inv-loop μ-loop
+add-put-u64 c = search needs
 
-put-u32-requires : tie.Need-put-u32-requires Inv-loop μ-loop
-put-u32-requires c κs =
+put-u64-requires : tie.Need-put-u64-requires Inv-loop μ-loop
+put-u64-requires c κs =
     let turn = c .before .before .before .before .before in
-    omega (arith, turn .loop .inv .2 .sized)
-
-mul-put-u32-3 : tie.Need-mul-put-u32-3 Inv-loop μ-loop
-mul-put-u32-3 c = search needs
-
-add-put-u32-2 : tie.Need-add-put-u32-2 Inv-loop μ-loop
-add-put-u32-2 c = search needs
-
-add-put-u32-3 : tie.Need-add-put-u32-3 Inv-loop μ-loop
-add-put-u32-3 c = search needs
-
-sub-size8-2 : tie.Need-sub-size8-2 Inv-loop μ-loop
-sub-size8-2 c = search needs
-
-shared-slice-read-size8-2 : tie.Need-shared-slice-read-size8-2 Inv-loop μ-loop
-shared-slice-read-size8-2 c = search needs
-
-size8-requires-2 : tie.Need-size8-requires-2 Inv-loop μ-loop
-size8-requires-2 c κs = search needs
-
-mul-put-u32-4 : tie.Need-mul-put-u32-4 Inv-loop μ-loop
-mul-put-u32-4 c = search needs
-
-element-copy-out-put-u32-2 : tie.Need-element-copy-out-put-u32-2 Inv-loop μ-loop
-element-copy-out-put-u32-2 c = search needs
-
-put-u32-requires-2 : tie.Need-put-u32-requires-2 Inv-loop μ-loop
-put-u32-requires-2 c κs =
-    let first = c .before .before .before .before .before .before in
-    let turn = first .before .before .before .before .before .before in
     omega (arith, turn .loop .inv .2 .sized)
 
 sub-byte : tie.Need-sub-byte Inv-loop μ-loop
@@ -93,23 +66,22 @@ loop-less c = search needs
 
 loop-again : tie.Need-loop-again Inv-loop μ-loop
 loop-again c =
-    let second = c .before .before in
-    let y = second .before .before .size82 in
-    let first = second .before .before .before .before .before .before .before in
-    let x = first .before .before .size8 in
-    let turn = first .before .before .before .before .before .before in
+    let stored = c .before .before in
+    let words = stored .before .before .two-words in
+    let turn = stored .before .before .before .before .before .before in
     let l = turn .loop in
+    let known = turn .before .before .shared-slice-known .given in
     let start = turn .before .before .before in
     let a = start .args in
-    let inside = first .before .before .before .before .before .loop-test .taken in (
+    let inside = stored .before .before .before .before .before .loop-test .taken in (
       omega arith,
       omega arith,
       pair-written (a .reference .now) false (4 * a .end - 8 * a .pairs) (8 * a .pairs)
-          (a .table .now) (first .put-u32 .last .0) (second .put-u322 .last .0) (a .at + 8 * l .k) (l .k)
-          (l .byte - 1) (l .byte - 2) (x .result) (y .result)
+          (a .table .now) (stored .put-u64 .last .0) (a .at + 8 * l .k) (l .k) (l .byte - 1)
+          (l .byte - 2) _ _ (words .result)
           (start .pre .3) (l .inv .2) (omega arith) (omega arith)
-          (first .put-u32 .ensures) (second .put-u322 .ensures) refl
-          (x .ensures .0) (x .ensures .1) (y .ensures .0) (y .ensures .1)
+          (words .ensures) (stored .put-u64 .ensures) refl
+          refl (omega (arith, known (l .byte - 1))) refl (omega (arith, known (l .byte - 2)))
           (omega arith) (omega arith),
     )
 
@@ -129,23 +101,14 @@ put-pairs-reverse-spec =
     Inv-loop
     μ-loop
     loop-holds
-    mul-put-u32
-    add-put-u32
-    sub-size8
-    shared-slice-read-size8
-    size8-requires
-    mul-put-u32-2
-    element-copy-out-put-u32
-    put-u32-requires
-    mul-put-u32-3
-    add-put-u32-2
-    add-put-u32-3
-    sub-size8-2
-    shared-slice-read-size8-2
-    size8-requires-2
-    mul-put-u32-4
-    element-copy-out-put-u32-2
-    put-u32-requires-2
+    sub-two-words
+    shared-slice-read-two-words
+    sub-two-words-2
+    shared-slice-read-two-words-2
+    two-words-requires
+    mul-put-u64
+    add-put-u64
+    put-u64-requires
     sub-byte
     add-k
     loop-less

@@ -3,9 +3,15 @@ use Prim.Native.Nat.{ℕ, _-_, _*_, _/_, _%_}
 use native.Mathlib.Omega.{arith}
 use mathlib.Core.Bool.{true}
 use borrow.Author.Needs.{needs}
+use Rattle.reference.specs.Tables.{WordsFit}
+use Rattle.reference.proofs.Words.{table-fits}
 use Rattle.reference.proofs.Stretches.{ends-and-bytes}
 use Rattle.reference.proofs.put_stretch_forward.Statement.{statement}
 use Rattle.reference.proofs.put_stretch_forward.Tie as tie
+
+-- The words of the table fit.
+fits : (c : tie.Start) → WordsFit (c .args .table .now)
+fits c = table-fits (c .args .table .now) true (c .pre .2)
 
 put-letters-requires : tie.Need-put-letters-requires
 put-letters-requires c κs = search needs
@@ -17,7 +23,7 @@ returns : tie.Need-returns
 returns c = search needs
 
 put-four-requires : tie.Need-put-four-requires
-put-four-requires c κs = search needs
+put-four-requires c κs = search (needs, fits (c .before .before .before .before))
 
 sub-head : tie.Need-sub-head
 sub-head c = search needs
@@ -41,7 +47,7 @@ add-put-four-2 : tie.Need-add-put-four-2
 add-put-four-2 c = search needs
 
 put-four-requires-2 : tie.Need-put-four-requires-2
-put-four-requires-2 c κs = search needs
+put-four-requires-2 c κs = search (needs, fits (c .before .before .before .before .before .before .before .before .before .before .before .before))
 
 add-put-four-3 : tie.Need-add-put-four-3
 add-put-four-3 c = search needs
@@ -56,7 +62,7 @@ add-put-four-6 : tie.Need-add-put-four-6
 add-put-four-6 c = search needs
 
 put-four-requires-3 : tie.Need-put-four-requires-3
-put-four-requires-3 c κs = search needs
+put-four-requires-3 c κs = search (needs, fits (c .before .before .before .before .before .before .before .before .before .before .before .before .before .before .before .before))
 
 same-length-2 : tie.Need-same-length-2
 same-length-2 c = search needs

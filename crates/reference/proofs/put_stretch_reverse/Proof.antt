@@ -3,9 +3,15 @@ use Prim.Native.Nat.{ℕ, _+_, _-_, _*_, _/_, _%_}
 use native.Mathlib.Omega.{arith}
 use mathlib.Core.Bool.{false}
 use borrow.Author.Needs.{needs}
+use Rattle.reference.specs.Tables.{WordsFit}
+use Rattle.reference.proofs.Words.{table-fits}
 use Rattle.reference.proofs.Stretches.{ends-and-bytes}
 use Rattle.reference.proofs.put_stretch_reverse.Statement.{statement}
 use Rattle.reference.proofs.put_stretch_reverse.Tie as tie
+
+-- The words of the table fit.
+fits : (c : tie.Start) → WordsFit (c .args .table .now)
+fits c = table-fits (c .args .table .now) false (c .pre .2)
 
 put-letters-requires : tie.Need-put-letters-requires
 put-letters-requires c κs = search needs
@@ -23,7 +29,7 @@ sub-put-four : tie.Need-sub-put-four
 sub-put-four c = search needs
 
 put-four-requires : tie.Need-put-four-requires
-put-four-requires c κs = search needs
+put-four-requires c κs = search (needs, fits (c .before .before .before .before))
 
 sub-pairs : tie.Need-sub-pairs
 sub-pairs c = search needs
@@ -41,7 +47,7 @@ add-put-four-2 : tie.Need-add-put-four-2
 add-put-four-2 c = search needs
 
 put-four-requires-2 : tie.Need-put-four-requires-2
-put-four-requires-2 c κs = search needs
+put-four-requires-2 c κs = search (needs, fits (c .before .before .before .before .before .before .before .before .before .before .before .before))
 
 add-put-four-3 : tie.Need-add-put-four-3
 add-put-four-3 c = search needs
@@ -50,7 +56,7 @@ add-put-four-4 : tie.Need-add-put-four-4
 add-put-four-4 c = search needs
 
 put-four-requires-3 : tie.Need-put-four-requires-3
-put-four-requires-3 c κs = search needs
+put-four-requires-3 c κs = search (needs, fits (c .before .before .before .before .before .before .before .before .before .before .before .before .before .before .before .before))
 
 same-length-2 : tie.Need-same-length-2
 same-length-2 c = search needs

@@ -6,6 +6,7 @@ use mathlib.Core.Path.{refl, _≡_, sym, _∙_}
 use mathlib.Core.Bool.{false}
 use lib.ListN.{getD}
 use borrow.Author.Needs.{needs}
+use Rattle.reference.proofs.Words.{table-fits}
 use Rattle.mismatches.specs.Places.{NoneBetween}
 use Rattle.mismatches.specs.Entries.{differsOn}
 use Rattle.mismatches.proofs.PlaceLaws.{none-here, none-then}
@@ -46,7 +47,9 @@ shared-slice-read-two-words-2 : tie.Need-shared-slice-read-two-words-2 Inv-loop 
 shared-slice-read-two-words-2 c = search needs
 
 two-words-requires : tie.Need-two-words-requires Inv-loop μ-loop
-two-words-requires c κs = search needs
+two-words-requires c κs =
+    let start = c .before .before .before .before .before .before in
+    table-fits (start .args .table .now) false (start .pre .4)
 
 add-u64-at : tie.Need-add-u64-at Inv-loop μ-loop
 add-u64-at c = search needs
