@@ -164,11 +164,26 @@ fn a_closed_pipe_ends_quietly() {
         (head.text(), &head.stderr[..]),
         (&format!("{}\n", "ACGTTGCAAC".repeat(10))[..], "0\n")
     );
-    // What was refused is known without the pipe.
-    let cut = folder.write("cut.ora", &folder.read("r.ora")[..200]);
-    let refused =
-        shell("{ \"$0\" validate -r \"$1\" \"$2\"; echo $? >&2; } | true", &[&reference, &cut]);
-    assert_eq!(refused.stderr, "1\n");
+}
+
+#[test]
+fn a_closed_pipe_hides_no_refusal() {
+    let folder = Folder::new("closed_after_refusal");
+    let reference = folder.write("ref", small_reference());
+    let cut = folder.write("cut.ora", &[sample_block(), sample_block()].concat()[..200]);
+    let closed = "{ sleep 0.1; \"$0\" \"$@\"; echo $? >&2; } | true";
+    let validated = shell(closed, &["validate", "-r", &reference, &cut]);
+    assert_eq!(validated.stderr, "1\n");
+    for arguments in [
+        &["decode", "-r", &reference, &cut][..],
+        &["decode", "--threads", "1", "-r", &reference, &cut],
+        &["list", "-r", &reference, &cut],
+        &["blocks", &cut],
+    ] {
+        let refused = shell(closed, arguments);
+        assert!(refused.stderr.contains("cut.ora: refused 2, block 1,"), "{}", refused.stderr);
+        assert!(refused.stderr.ends_with("\n1\n"), "{}", refused.stderr);
+    }
 }
 
 #[test]

@@ -1,6 +1,6 @@
 //! `frubanto blocks`: a table of the blocks of a file.
 
-use super::{Status, ACCEPTED};
+use super::{concluded, Status, ACCEPTED};
 use crate::arguments::BlocksArguments;
 use crate::block_file::{FileBlock, Walk};
 use crate::failure::Failure;
@@ -14,8 +14,7 @@ pub fn run(arguments: &BlocksArguments) -> Result<Status, Failure> {
     let mut output = Output::standard()?;
     output.write(heading().as_bytes())?;
     let printed = print_rows(&file, &mut output);
-    output.finish()?;
-    printed.map(|()| ACCEPTED)
+    concluded(printed, output.finish()).map(|()| ACCEPTED)
 }
 
 fn print_rows(file: &InputFile, output: &mut Output) -> Result<(), Failure> {

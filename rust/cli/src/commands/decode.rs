@@ -1,6 +1,6 @@
 //! `frubanto decode`: the letters of a file of blocks.
 
-use super::{print_blocks, print_reads, Status, ACCEPTED};
+use super::{concluded, print_blocks, print_reads, Status, ACCEPTED};
 use crate::arguments::DecodeArguments;
 use crate::block_file::{FileBlock, ReferenceFile};
 use crate::failure::Failure;
@@ -24,13 +24,13 @@ pub fn run(arguments: &DecodeArguments) -> Result<Status, Failure> {
         }
     };
     let printed = print_blocks(&file, &reference, &workers, &mut output, print);
-    if let Err(Failure::Refused(_)) = printed {
+    let written = match printed {
+        Ok(_) => output.finish(),
         // What stands before the refused block is there for whoever reads it.
-        output.flush()?;
-    }
-    printed?;
-    output.finish()?;
-    Ok(ACCEPTED)
+        Err(Failure::Refused(_)) => output.flush(),
+        Err(_) => Ok(()),
+    };
+    concluded(printed, written).map(|_| ACCEPTED)
 }
 
 /// Adds each read under a name made of the index of its block and its own.

@@ -1,6 +1,6 @@
 //! `frubanto list`: the text of the listing program.
 
-use super::{print_blocks, print_reads, Status, ACCEPTED};
+use super::{concluded, print_blocks, print_reads, Status, ACCEPTED};
 use crate::arguments::ListArguments;
 use crate::block_file::{FileBlock, ReferenceFile};
 use crate::failure::Failure;
@@ -17,16 +17,16 @@ pub fn run(arguments: &ListArguments) -> Result<Status, Failure> {
     let listed = reference
         .reference()
         .and_then(|reference| print_blocks(&file, &reference, &workers, &mut output, print_block));
-    match &listed {
-        Ok(blocks) => output.write(format!("end blocks {blocks}\n").as_bytes())?,
+    let last = match &listed {
+        Ok(blocks) => format!("end blocks {blocks}\n"),
         Err(Failure::Refused(refused)) => {
             let ora::Refusal { number, block, read } = refused.refusal;
-            output.write(format!("refused {number} {block} {read}\n").as_bytes())?;
+            format!("refused {number} {block} {read}\n")
         }
-        Err(_) => {}
-    }
-    output.finish()?;
-    listed.map(|_| ACCEPTED)
+        Err(_) => String::new(),
+    };
+    let written = output.write(last.as_bytes()).and_then(|()| output.finish());
+    concluded(listed, written).map(|_| ACCEPTED)
 }
 
 fn print_block(block: &FileBlock, decoded: &Decoded, text: &mut Vec<u8>) {

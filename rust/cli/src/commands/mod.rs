@@ -77,6 +77,15 @@ fn print_blocks(
     Ok(blocks)
 }
 
+/// What a command gives when the last of its output is written, or is not. A pipe that is closed by
+/// then does not hide what was found before.
+fn concluded<T>(found: Result<T, Failure>, written: Result<(), Failure>) -> Result<T, Failure> {
+    match (found, written) {
+        (found, Ok(())) | (found @ Err(_), Err(Failure::ClosedPipe)) => found,
+        (_, Err(failure)) => Err(failure),
+    }
+}
+
 /// About how many bytes a block takes with its letters and their text.
 fn bytes_when_printed(block: &[u8]) -> u64 {
     let header = Header::of(block);
