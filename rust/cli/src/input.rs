@@ -6,8 +6,9 @@
 use crate::failure::{is_stream, shown, Failure};
 use memmap2::{Mmap, MmapOptions};
 use std::fs::{self, File, OpenOptions};
-use std::io::{self, BufRead, BufReader, Read};
+use std::io::{self, BufRead, BufReader, Read, Seek, Write};
 use std::ops::Deref;
+use std::os::fd::AsFd;
 use std::os::unix::fs::OpenOptionsExt;
 use std::path::Path;
 
@@ -21,25 +22,24 @@ pub struct InputFile {
 }
 
 impl InputFile {
-    /// Opens a file. Standard input (`-`), and whatever else cannot be mapped, is first copied to a
-    /// file without a name, in the folder for temporary files.
+    /// Opens a file; `-` is standard input. What is no ordinary file, or was read in part, is first
+    /// copied to a file without a name, in the folder for temporary files.
     pub fn open(path: &Path) -> Result<InputFile, Failure> {
         let name = shown(path, "standard input");
         let cannot = |error| Failure::reading(&name, error);
-        let file = if is_stream(path) {
-            spool(io::stdin().lock()).map_err(cannot)?
+        let mut file = if is_stream(path) {
+            io::stdin().as_fd().try_clone_to_owned().map(File::from)
         } else {
-            let file = File::open(path).map_err(cannot)?;
-            let kind = file.metadata().map_err(cannot)?.file_type();
-            if kind.is_dir() {
-                return Err(cannot(io::Error::other("it is a directory")));
-            }
-            if kind.is_file() {
-                file
-            } else {
-                spool(file).map_err(cannot)?
-            }
-        };
+            File::open(path)
+        }
+        .map_err(cannot)?;
+        let kind = file.metadata().map_err(cannot)?.file_type();
+        if kind.is_dir() {
+            return Err(cannot(io::Error::other("it is a directory")));
+        }
+        if !kind.is_file() || file.stream_position().map_err(cannot)? > 0 {
+            file = spool(file, &name)?;
+        }
         let length = file.metadata().map_err(cannot)?.len();
         Ok(InputFile { name, length, file })
     }
@@ -70,28 +70,42 @@ impl Deref for Part {
 }
 
 /// Copies a stream to a file that has no name and so is gone with the program.
-fn spool(mut source: impl Read) -> io::Result<File> {
+fn spool(mut source: File, name: &str) -> Result<File, Failure> {
     let folder = std::env::temp_dir();
+    let copy = format!("a copy of {name} in {}", folder.display());
+    let mut file = create_nameless(&folder).map_err(|error| Failure::writing(&copy, error))?;
+    let mut buffer = vec![0; BUFFER];
+    loop {
+        let read = match source.read(&mut buffer) {
+            Ok(0) => return Ok(file),
+            Ok(read) => read,
+            Err(error) if error.kind() == io::ErrorKind::Interrupted => continue,
+            Err(error) => return Err(Failure::reading(name, error)),
+        };
+        file.write_all(&buffer[..read]).map_err(|error| Failure::writing(&copy, error))?;
+    }
+}
+
+/// Creates a file in this folder and takes its name away.
+fn create_nameless(folder: &Path) -> io::Result<File> {
     let mut options = OpenOptions::new();
     options.read(true).write(true).create_new(true).mode(0o600);
     let mut attempt = 0;
-    let mut file = loop {
+    loop {
         let path = folder.join(format!("frubanto-{}-{attempt}", std::process::id()));
         match options.open(&path) {
-            Ok(file) => {
-                fs::remove_file(&path)?;
-                break file;
-            }
             Err(error) if error.kind() == io::ErrorKind::AlreadyExists => attempt += 1,
-            Err(error) => return Err(error),
+            file => {
+                let file = file?;
+                fs::remove_file(&path)?;
+                return Ok(file);
+            }
         }
-    };
-    io::copy(&mut source, &mut file)?;
-    Ok(file)
+    }
 }
 
-/// How much of a text is read at once.
-const TEXT_BUFFER: usize = 1 << 20;
+/// How much of a stream is read at once.
+const BUFFER: usize = 1 << 20;
 
 /// A text that is read from its start to its end.
 pub struct Text {
@@ -111,12 +125,12 @@ impl Text {
         let cannot = |error| Failure::reading(&name, error);
         let mut length = None;
         let mut source: Box<dyn BufRead> = if is_stream(path) {
-            Box::new(BufReader::with_capacity(TEXT_BUFFER, io::stdin().lock()))
+            Box::new(BufReader::with_capacity(BUFFER, io::stdin().lock()))
         } else {
             let file = File::open(path).map_err(cannot)?;
             let metadata = file.metadata().map_err(cannot)?;
             length = metadata.is_file().then_some(metadata.len());
-            Box::new(BufReader::with_capacity(TEXT_BUFFER, file))
+            Box::new(BufReader::with_capacity(BUFFER, file))
         };
         let start = source.fill_buf().map_err(cannot)?;
         if start.starts_with(&[0x1F, 0x8B]) || start.starts_with(b"CRAM") {

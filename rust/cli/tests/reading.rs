@@ -331,6 +331,14 @@ fn blocks_from_standard_input_and_pipes() {
     assert_eq!(run_with(&["decode", "-r", &reference, "-"], b"").accepted().text(), "");
     let piped = shell("cat \"$1\" | \"$0\" decode -r \"$2\" /dev/stdin", &[&path, &reference]);
     assert_eq!(piped.accepted().text(), lines);
+    let opened = shell("\"$0\" decode -r \"$2\" - < \"$1\"", &[&path, &reference]);
+    assert_eq!(opened.accepted().text(), lines);
+    // What was read before is not read again.
+    let first = generated.blocks()[0].len().to_string();
+    let rest = "{ dd bs=\"$3\" count=1 2>/dev/null >&2; \"$0\" decode -r \"$2\" -; } < \"$1\"";
+    let rest = shell(rest, &[&path, &reference, &first]);
+    assert_eq!(rest.accepted().text(), &lines[generated.lines(1).len()..]);
+    run_with(&["decode", "-r", &reference, "/"], b"").failed(2, "cannot read /: it is a directory");
     run_with(&["decode", "-r", "-", &path], &file).failed(2, "the reference is read from a file");
     run_with(&["validate", "-r", &reference, "-", "-"], &file).failed(2, "can be read once");
 }

@@ -187,6 +187,23 @@ fn a_closed_pipe_hides_no_refusal() {
 }
 
 #[test]
+fn a_copy_of_a_pipe_that_cannot_be_written() {
+    let folder = Folder::new("copy");
+    let (reference, _, blocks) = large_sample(&folder);
+    let missing = folder.path("missing");
+    let piped = "cat \"$3\" | TMPDIR=\"$1\" \"$0\" validate -r \"$2\" -";
+    let copy = format!("cannot write a copy of standard input in {missing}: No such file");
+    shell(piped, &[&missing, &reference, &blocks]).failed(2, &copy);
+    let limited = format!("trap '' XFSZ; ulimit -f 4; {piped}");
+    shell(&limited, &[&folder.path(""), &reference, &blocks]).failed(2, ": File too large");
+    assert_eq!(folder.names(), ["g.fa", "g.ref", "g.ref.fai", "r.ora", "r.sam"]);
+    // A file needs no copy.
+    let file = "TMPDIR=\"$1\" \"$0\" validate -r \"$2\" - < \"$3\"";
+    let validated = shell(file, &[&missing, &reference, &blocks]).accepted();
+    assert!(validated.text().starts_with("standard input: accepted, blocks 200, reads 20000,"));
+}
+
+#[test]
 fn progress_is_for_terminals() {
     let folder = Folder::new("progress");
     let (reference, sam, blocks) = large_sample(&folder);
