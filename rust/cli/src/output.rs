@@ -5,11 +5,14 @@ use crate::failure::{is_stream, shown, Failure};
 use std::fs::{self, File, Metadata, OpenOptions};
 use std::io::{self, IsTerminal, Seek, SeekFrom, Write};
 use std::os::fd::AsFd;
-use std::os::unix::fs::MetadataExt;
+use std::os::unix::fs::{MetadataExt, OpenOptionsExt};
 use std::path::{Path, PathBuf};
 
 /// How much is gathered before it is written.
 const GATHERED: usize = 1 << 16;
+
+/// All may read and write.
+const EVERYONE: u32 = 0o666;
 
 /// A file that is being written, or standard output.
 pub struct Output {
@@ -53,9 +56,12 @@ impl Output {
             Ok(found) if inputs.iter().any(|input| is_same(&found, input)) => {
                 return Err(cannot(io::Error::other("it is one of the files that are read")));
             }
-            // A link stays, and what it leads to is replaced.
-            Ok(_) => create_beside(fs::canonicalize(path).map_err(cannot)?).map_err(cannot)?,
-            Err(_) => create_beside(path.to_path_buf()).map_err(cannot)?,
+            // A link stays, and what it leads to is replaced: by a file that no others can read.
+            Ok(found) => {
+                let last = fs::canonicalize(path).map_err(cannot)?;
+                create_beside(last, found.mode() & EVERYONE).map_err(cannot)?
+            }
+            Err(_) => create_beside(path.to_path_buf(), EVERYONE).map_err(cannot)?,
         };
         Ok(Output { name, file, gathered: Vec::new(), unfinished })
     }
@@ -123,15 +129,16 @@ fn is_same(found: &Metadata, path: &Path) -> bool {
     fs::metadata(path).is_ok_and(|other| (found.dev(), found.ino()) == (other.dev(), other.ino()))
 }
 
-/// Creates a file beside the one that it becomes, under a name that nothing has.
-fn create_beside(last: PathBuf) -> io::Result<(File, Option<Unfinished>)> {
+/// Creates a file beside the one that it becomes, under a name that nothing has, with these
+/// permissions but for those that the umask takes.
+fn create_beside(last: PathBuf, mode: u32) -> io::Result<(File, Option<Unfinished>)> {
     let name = last.file_name().ok_or(io::ErrorKind::InvalidInput)?;
     let mut attempt = 0;
     loop {
         let mut name = name.to_os_string();
         name.push(format!(".unfinished-{}-{attempt}", std::process::id()));
         let first = last.with_file_name(name);
-        match OpenOptions::new().write(true).create_new(true).open(&first) {
+        match OpenOptions::new().write(true).create_new(true).mode(mode).open(&first) {
             // One that was killed may have left its file, and had the same number.
             Err(error) if error.kind() == io::ErrorKind::AlreadyExists => attempt += 1,
             file => return Ok((file?, Some(Unfinished { first, last }))),

@@ -255,8 +255,13 @@ fn standard_input_and_output() {
         assert!(ran.stdout == expected);
         assert!(ran.stderr.starts_with("standard input: "));
     }
-    // With CRLF line ends, without the last one, with empty lines and small letters.
+    // With CRLF line ends, without the last one, with empty lines and small letters, and with the
+    // sequences of the header in another order.
+    let (mut header, records): (Vec<&str>, Vec<&str>) =
+        simulated.sam.lines().partition(|line| line.starts_with('@'));
+    header.reverse();
     for sam in [
+        [header, records].concat().join("\n"),
         simulated.sam.replace('\n', "\r\n"),
         simulated.sam.trim_end().to_string(),
         simulated.sam.replace('\n', "\n\n"),
@@ -533,7 +538,8 @@ fn b_ids_do_not_wrap() {
 fn inputs_are_not_replaced() {
     let simulated = mixed("encode_inputs", 11, 5);
     let sam = simulated.write_sam();
-    for input in [&sam, &simulated.reference] {
+    let index = format!("{}.fai", simulated.reference);
+    for input in [&sam, &simulated.reference, &index] {
         run(&["encode", "-r", &simulated.reference, "-o", input, &sam])
             .failed(2, "it is one of the files that are read");
     }

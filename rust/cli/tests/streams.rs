@@ -4,7 +4,9 @@
 
 mod common;
 use common::*;
+use std::fs::Permissions;
 use std::io::Read;
+use std::os::unix::fs::PermissionsExt;
 use std::process::{Command, Stdio};
 
 /// A reference, a SAM file and a file of blocks that takes many writes.
@@ -201,6 +203,27 @@ fn a_copy_of_a_pipe_that_cannot_be_written() {
     let file = "TMPDIR=\"$1\" \"$0\" validate -r \"$2\" - < \"$3\"";
     let validated = shell(file, &[&missing, &reference, &blocks]).accepted();
     assert!(validated.text().starts_with("standard input: accepted, blocks 200, reads 20000,"));
+}
+
+#[test]
+fn a_file_that_is_replaced_stays_private() {
+    let folder = Folder::new("private");
+    let (reference, sam, blocks) = large_sample(&folder);
+    let old = folder.write("old", "old");
+    let new = folder.path("new");
+    let mode = |path: &str| std::fs::metadata(path).unwrap().permissions().mode() & 0o777;
+    for arguments in [
+        &["decode", "-r", &reference, &blocks, "-o"][..],
+        &["encode", "-r", &reference, &sam, "-o"],
+    ] {
+        std::fs::set_permissions(&old, Permissions::from_mode(0o600)).unwrap();
+        let with_umask = "umask 022; \"$0\" \"$@\"";
+        shell(with_umask, &[arguments, &[&old[..]]].concat()).accepted();
+        shell(with_umask, &[arguments, &[&new[..]]].concat()).accepted();
+        assert_eq!((mode(&old), mode(&new)), (0o600, 0o644));
+        assert!(folder.read("old").len() > 3);
+        std::fs::remove_file(&new).unwrap();
+    }
 }
 
 #[test]

@@ -10,11 +10,12 @@ use crate::output::Output;
 use crate::progress::Progress;
 use crate::sam::{make_reads, Batch, SamReader, Tally};
 use crate::say;
-use crate::sequences::Sequences;
+use crate::sequences::{index_path, Sequences};
 use crate::workers::{Job, Workers};
 use ora::{Reads, Reference};
 use std::fmt::Write;
 use std::io::IsTerminal;
+use std::path::Path;
 use std::time::{SystemTime, UNIX_EPOCH};
 
 const UNPACK: &str = "SAM text is read, as in `samtools view -h READS.bam | frubanto encode ...`";
@@ -28,8 +29,9 @@ pub fn run(arguments: &EncodeArguments) -> Result<Status, Failure> {
     let reference = file.reference()?;
     let sequences = Sequences::open(&arguments.reference.path, reference.bases())?;
     let text = Text::open(&arguments.reads, UNPACK)?;
-    let mut output =
-        Output::create(&arguments.output, &[&arguments.reference.path, &arguments.reads])?;
+    let index = index_path(&arguments.reference.path);
+    let inputs: [&Path; 3] = [&arguments.reference.path, &index, &arguments.reads];
+    let mut output = Output::create(&arguments.output, &inputs)?;
     let name = text.name.clone();
     let summary = encode(arguments, &reference, &sequences, text, &mut output)?;
     output.finish()?;
