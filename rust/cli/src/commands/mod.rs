@@ -24,6 +24,10 @@ pub const ACCEPTED: Status = 0;
 pub const REFUSED: Status = 1;
 pub const UNUSABLE: Status = 2;
 
+/// What has more bytes is given back once its block is done with, and not kept for the next one: so
+/// a few large blocks do not take memory in every thread. It has room for any block of `encode`.
+const KEPT: usize = 1 << 25;
+
 thread_local! {
     // What a thread decodes into, again and again.
     static DECODED: RefCell<Decoded> = RefCell::new(Decoded::new());
@@ -61,13 +65,18 @@ fn print_blocks(
             judged.map_err(|refusal| block.refused(file, refusal))?;
             text.clear();
             print(&block, decoded, &mut text);
+            if decoded.letters().len() > KEPT {
+                *decoded = Decoded::new();
+            }
             Ok(Printed { text, bytes: block.bytes().len() as u64 })
         })
     };
     let take = |printed: Printed| {
         output.write(&printed.text)?;
-        if let Ok(mut spare) = spare.lock() {
-            spare.push(printed.text);
+        if printed.text.capacity() <= KEPT {
+            if let Ok(mut spare) = spare.lock() {
+                spare.push(printed.text);
+            }
         }
         progress.advance(printed.bytes);
         blocks += 1;
