@@ -6,7 +6,7 @@
 //!   blocks, counts, offset and length of a section, unused slots 0;
 //! - letters, ends and bytes written, and that a lent buffer holds what it held past them, after a
 //!   refusal all over, and around it in any case;
-//! - b_id;
+//! - b_id, and the length of the block;
 //! - that a block which was written reads back as the letters and ends that it was made of.
 //!
 //! Every refusal of every call that owns it, and every path in `paths`, has to be met often enough,
@@ -15,7 +15,7 @@
 //!
 //! | Module | Carries |
 //! |---|---|
-//! | `library` | the six calls, of the library and of the second implementation |
+//! | `library` | the seven calls, of the library and of the second implementation |
 //! | `case`, `lent` | what a case is; lent buffers that tell what was written |
 //! | `draw`, `readings`, `writings`, `stock` | the families of cases, and what they draw from |
 //! | `check` | one case through both sides |

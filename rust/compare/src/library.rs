@@ -1,4 +1,4 @@
-//! The six calls, as `include/ora.h` has them, of the library and of the second implementation.
+//! The seven calls, as `include/ora.h` has them, of the library and of the second implementation.
 
 use ora::raw::{self, Answer};
 use ora::Columns;
@@ -14,7 +14,7 @@ pub struct Under<'a> {
 /// The b_id and the c_time of a block to be written.
 pub type Stamp = (u64, u64);
 
-/// Something that answers the six calls.
+/// Something that answers the seven calls.
 pub trait Library: Sync {
     fn decode(
         &self,
