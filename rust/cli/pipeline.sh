@@ -152,7 +152,7 @@ time_ways() {
   for turn in 1 2 3 4 5; do
     for name in "${!ways[@]}"; do
       # The words of a way have no spaces in them.
-      taken=$(seconds ${BENCH_WITH:-} ${ways[$name]})
+      taken=$(seconds ${BENCH_WITH:-} ${ways[$name]}) || return 1
       best[$name]=$(awk -v best="${best[$name]:-}" -v taken="$taken" \
         'BEGIN { print best == "" || taken < best ? taken : best }')
     done
@@ -180,6 +180,8 @@ bench() {
   "$frubanto" encode -r genome.ref -o all.ora all.sam
   samtools view -b -o all.bam all.sam
   rm -f all.sam r1.fq r2.fq
+  cmp <("$frubanto" decode -r genome.ref all.ora) <(samtools fasta all.bam 2>/dev/null | grep -v '^>') \
+    || fail "decode and samtools fasta print other letters"
   # Files that are joined are a file.
   for _ in 1 2 3 4 5 6 7 8 9 10; do cat all.ora; done > tenfold.ora
 
