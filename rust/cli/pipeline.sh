@@ -161,12 +161,18 @@ time_ways() {
 
 # peak COMMAND...: the most memory that it takes, in KiB, its output going nowhere.
 peak() {
-  local most=0 now
+  local most=0 now name value
   "$@" > /dev/null &
   local id=$!
-  while now=$(awk '/^VmHWM/ { print $2 }' "/proc/$id/status" 2>/dev/null) && [ -n "$now" ]; do
+  while :; do
+    now=
+    # Read by the shell itself, so that a short run is looked at often.
+    { while read -r name value _; do
+      if [ "$name" = VmHWM: ]; then now=$value; fi
+    done < "/proc/$id/status"; } 2>/dev/null || break
+    [ -n "$now" ] || break
     most=$now
-    sleep 0.01
+    sleep 0.002
   done
   wait "$id" || fail "$* failed"
   echo "$most"
