@@ -22,7 +22,7 @@ use Rattle.lines.specs.Lines.{labelled, blockLine, readLine, readLines, 
 use Rattle.lines.specs.Lines.{refusedLine}
 use Rattle.lines.specs.Listing.{basesOf, referenceOf, referenceRefused, windowOf}
 use Rattle.lines.specs.Listing.{listedAnswer, answerText, answerMove, turnText, turnMove}
-use Rattle.lines.specs.Listing.{blocksText, listing}
+use Rattle.lines.specs.Listing.{nextText, nextMove, blocksText, listing}
 use Rattle.lines.specs.Example.{sumsFile, ExampleRight}
 
 -- All that a listing computes with: to unfold this is to unfold each.
@@ -34,7 +34,8 @@ unfolding walking total signed nonNegative fixedLengths lengthsGiven headerOf fl
     lengthFaults blockReads blockCounts headerRefused idAnswer lengthsAnswer dnaTrailing
     blockAnswer capacityTooSmall decodeAnswer flatten fifthRow blockWith listingBlock text digitsOf
     decimal labelled blockLine readLine readLines blockText endLine refusedLine basesOf referenceOf
-    referenceRefused windowOf listedAnswer answerText answerMove turnText turnMove blocksText
+    referenceRefused windowOf listedAnswer answerText answerMove turnText turnMove nextText nextMove
+    blocksText
     listing sumsFile
 listed = tt
 

@@ -80,6 +80,17 @@ turnText bases reference window block =
 unfoldable pub turnMove : (bases : ℕ) (reference window : List ℕ) → ℕ
 turnMove bases reference window = answerMove (listedAnswer bases reference window)
 
+-- The same of what is left of a file after `block` blocks: the block at the start of its window, or
+-- the last line where nothing is left.
+unfoldable pub nextText : (bases : ℕ) (reference left : List ℕ) (block : ℕ) → List ℕ
+nextText bases reference [] block = endLine block
+nextText bases reference (byte ∷ bytes) block =
+    turnText bases reference (windowOf (byte ∷ bytes)) block
+
+unfoldable pub nextMove : (bases : ℕ) (reference left : List ℕ) → ℕ
+nextMove bases reference [] = 0
+nextMove bases reference (byte ∷ bytes) = turnMove bases reference (windowOf (byte ∷ bytes))
+
 -- ---- The whole
 
 -- The blocks of what is left of a file, at most so many, after `block` of them. The last clause but
@@ -89,9 +100,8 @@ blocksText zero bases reference [] block = endLine block
 blocksText (suc most) bases reference [] block = endLine block
 blocksText zero bases reference (byte ∷ bytes) block = []
 blocksText (suc most) bases reference (byte ∷ bytes) block =
-    let window : List ℕ = windowOf (byte ∷ bytes) in
-    let move : ℕ = turnMove bases reference window in
-    turnText bases reference window block
+    let move : ℕ = nextMove bases reference (byte ∷ bytes) in
+    nextText bases reference (byte ∷ bytes) block
     ++ cond (eqb move 0) []
     (blocksText most bases reference (drop move (byte ∷ bytes)) (suc block))
 

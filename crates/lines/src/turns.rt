@@ -1,6 +1,7 @@
 // One turn of a listing: the block at the start of a window. The contracts cite specs/Listing.antt;
 // every `requires` says what is lent.
 use crate::block_text::put_block;
+use crate::put_end_line;
 use crate::put_refused_line;
 use format::BlockOutcome;
 use integers::size64;
@@ -15,8 +16,11 @@ ghost use Rattle.lines.specs.Listing.{
   endsLent,
   textRoom,
   referenceRefused,
+  windowOf,
   turnText,
   turnMove,
+  nextText,
+  nextMove,
 };
 
 // 32 KiB: the most bytes of a reference file, and of a block.
@@ -89,4 +93,47 @@ pub fn list_block(
             };
         }
     }
+}
+
+// Lists what is left of a file after `block` blocks at the start of `text`: the next block, or the
+// last line where nothing is left.
+pub fn list_left(
+    bases: u64,
+    reference: &[u8],
+    left: &[u8],
+    block: u64,
+    letters: &mut [u8],
+    ends: &mut [u32],
+    text: &mut [u8],
+) -> Turn
+    requires { ⌜ length (now letters) ≡ lettersLent ⌝ }
+    requires { ⌜ length (now ends) ≡ endsLent ⌝ }
+    requires { ⌜ textRoom ≤ length (now text) ⌝ }
+    ensures { λ r. ⌜ (now (text .exit)
+        ≡ pasted (now (text .entry)) 0
+        (nextText bases (now (reference .entry)) (now (left .entry)) block))
+        × (r .size ≡ length (nextText bases (now (reference .entry)) (now (left .entry)) block))
+        × (r .moved ≡ nextMove bases (now (reference .entry)) (now (left .entry)))
+        × (r .size ≤ length (now (text .entry)))
+        × (r .moved ≤ length (now (left .entry))) ⌝ }
+{
+    if left.len() == 0 {
+        let size = put_end_line(block, text, 0);
+        return Turn {
+            size: size,
+            moved: 0,
+        };
+    }
+    let window = window_of(left);
+    list_block(bases, reference, window, block, letters, ends, text)
+}
+
+// The window of what is left of a file.
+fn window_of(left: &[u8]) -> &[u8]
+    ensures { λ r. ⌜ now r ≡ windowOf (now (left .entry)) ⌝ }
+{
+    if left.len() <= MAX_BYTES {
+        return left;
+    }
+    &left[..MAX_BYTES]
 }

@@ -3,16 +3,14 @@ use crate::put_fault;
 use crate::put_text;
 use crate::windows::Window;
 use crate::windows::next_window;
-use lines::put_end_line;
-use lines::turns::MAX_BYTES;
-use lines::turns::list_block;
+use lines::turns::list_left;
 ghost use mathlib.Core.Path.{_≡_};
 ghost use Prim.Native.Nat.{_≤_};
 ghost use lib.ListN.{length};
 ghost use Rattle.lines.specs.Listing.{lettersLent, endsLent, textRoom};
 
-// Lists what is left of a file after `block` blocks: the next block, or the last line where nothing
-// is left. Gives how far the window moves; 0 where the listing ends.
+// Lists what is left of a file after `block` blocks. Gives how far the window moves; 0 where the
+// listing ends.
 fn list_next(
     bases: u64,
     reference: &[u8],
@@ -27,35 +25,12 @@ fn list_next(
     requires { ⌜ textRoom ≤ length (now text) ⌝ }
     ensures { λ r. ⌜ r ≤ length (now (left .entry)) ⌝ }
 {
-    if left.len() == 0 {
-        let size = put_end_line(block, text, 0);
-        put_text(&text[..size]);
-        return 0;
-    }
-    let window = least(left.len(), MAX_BYTES);
-    let turn = list_block(
-        bases,
-        reference,
-        &left[..window],
-        block,
-        letters,
-        ends,
-        text,
-    );
+    let turn = list_left(bases, reference, left, block, letters, ends, text);
     let size = turn.size;
     if put_text(&text[..size]) {
         return turn.moved;
     }
     0
-}
-
-fn least(a: usize, b: usize) -> usize
-    ensures { λ r. ⌜ (r ≤ a) × (r ≤ b) ⌝ }
-{
-    if a < b {
-        return a;
-    }
-    b
 }
 
 // Lists an opened file, of which so many bytes are read. Its blocks are counted in 64 bits, which
