@@ -1,6 +1,6 @@
-// A test of the public calls: the specification's sums as whole blocks, a block of several groups,
-// a damaged block for each refusal, files, and the sections of a block. The file stdout holds what
-// the specification gives.
+// A test of the public calls: the specification's sums as whole blocks, a record whose lists are
+// full, a block of several groups, a damaged block for each refusal, files, and the sections of a
+// block. The file stdout holds what the specification gives.
 //
 // A block's line: its name, the answer of decode, that of validate_block, and both lent buffers
 // after decode, or `untouched`. An answer is `accepted` with the block's length and its reads,
@@ -12,6 +12,7 @@
 mod block;
 mod damage;
 mod damaged_dna;
+mod full_lists;
 mod groups;
 mod joined_files;
 mod lines;
@@ -28,6 +29,7 @@ fn main() {
     sums::run_sums();
     read_lengths::run_lengths();
     lone_differences::run_differences();
+    full_lists::run_full();
     groups::run_groups();
     damage::run_faults();
     damaged_dna::run_faults();

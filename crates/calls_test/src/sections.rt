@@ -1,7 +1,7 @@
 // A block with a header of 124 bytes and eight sections that have bytes, its header written byte by
 // byte; where each section stands and what it holds. Each starts where the one before it ends, the
 // first at 124. m2 is empty, so its span is 0 0; so are those of the numbers past 8 and of a header
-// that is refused, and then b_id is 0.
+// that is refused, and then b_id and length are 0.
 use crate::block::BLOCK_CAPACITY;
 use crate::block::block_buffer;
 use crate::block::put_bytes_at;
@@ -44,17 +44,24 @@ fn run_input(label: &[u8], most: usize, first: u8) {
     run_block(label, first_bytes(&block, most));
 }
 
-// The b_id of a block, then its sections.
+// What is told of a block without its sections, then those.
 fn run_block(label: &[u8], input: &[u8]) {
-    put_text(label);
-    put_text(b": b_id");
-    put_number(ora::block_id(input));
-    end_line();
+    put_block(label, input);
     let mut number: u64 = 0;
     while number < ASKED_SECTIONS {
         run_section(input, number);
         number += 1;
     }
+}
+
+// The b_id and the length of a block.
+fn put_block(label: &[u8], input: &[u8]) {
+    put_text(label);
+    put_text(b": b_id");
+    put_number(ora::block_id(input));
+    put_text(b" length");
+    put_number(ora::block_length(input));
+    end_line();
 }
 
 // Where a section stands, and its bytes.

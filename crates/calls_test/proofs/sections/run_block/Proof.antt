@@ -11,23 +11,8 @@ Inv-loop label input number₀ number = Unit {0}
 abbrev μ-loop : tie.MeasureT-loop
 μ-loop label input number₀ number = 10 - number
 
-put-text-requires : tie.Need-put-text-requires Inv-loop μ-loop
-put-text-requires c κs = search needs
-
-slice-aggregate-put-text : tie.Need-slice-aggregate-put-text Inv-loop μ-loop
-slice-aggregate-put-text c = search needs
-
-put-text-requires-2 : tie.Need-put-text-requires-2 Inv-loop μ-loop
-put-text-requires-2 c κs = search needs
-
-block-id-requires : tie.Need-block-id-requires Inv-loop μ-loop
-block-id-requires c κs = search needs
-
-put-number-requires : tie.Need-put-number-requires Inv-loop μ-loop
-put-number-requires c κs = search needs
-
-end-line-requires : tie.Need-end-line-requires Inv-loop μ-loop
-end-line-requires c κs = search needs
+put-block-requires : tie.Need-put-block-requires Inv-loop μ-loop
+put-block-requires c κs = search needs
 
 loop-holds : tie.Need-loop-holds Inv-loop μ-loop
 loop-holds c = search needs
@@ -53,12 +38,7 @@ run-block-spec =
     (tie.spec
     Inv-loop
     μ-loop
-    put-text-requires
-    slice-aggregate-put-text
-    put-text-requires-2
-    block-id-requires
-    put-number-requires
-    end-line-requires
+    put-block-requires
     loop-holds
     run-section-requires
     add-number
