@@ -48,6 +48,11 @@ expect 1 "$folder/text" "$list" /dev/null "$data/sample.blocks"
 echo "end blocks 0" >"$folder/text"
 expect 0 "$folder/text" "$list" "$data/sample.reference" /dev/null
 
+# A folder cannot be read: no result is printed.
+: >"$folder/text"
+expect 2 "$folder/text" "$list" "$folder" "$data/sample.blocks" 2>/dev/null
+expect 2 "$folder/text" "$list" "$data/sample.reference" "$folder" 2>/dev/null
+
 # More blocks than the window of 32 KiB holds.
 : >"$folder/blocks"
 : >"$folder/text"

@@ -50,6 +50,9 @@ static int list(uint64_t bases, size_t reference_len, FILE *blocks) {
     }
     for (;;) {
         used += fread(window + used, 1, WINDOW - used, blocks);
+        if (ferror(blocks)) {
+            return 2;
+        }
         if (used == 0) {
             printf("end blocks %" PRIu64 "\n", block);
             return 0;
@@ -79,8 +82,11 @@ int main(int count, char **arguments) {
     for (int i = 7; i >= 0; i--) {
         bases = bases << 8 | reference[i];
     }
-    int status = size < 8 || size > WINDOW ? refused(ORA_REFERENCE_SIZE_WRONG, 0, 0)
+    int status = 2;
+    if (!ferror(first)) {
+        status = size < 8 || size > WINDOW ? refused(ORA_REFERENCE_SIZE_WRONG, 0, 0)
                                            : list(bases, size - 8, second);
+    }
     if (ferror(first) || ferror(second) || fflush(stdout) != 0) {
         fputs("list: a file cannot be read, or the listing not written\n", stderr);
         status = 2;

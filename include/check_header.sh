@@ -1,6 +1,7 @@
 #!/bin/sh
 # Checks include/ora.h, or the header that is given, against the crates: it has the functions of crates/capi/src/lib.rt,
-# each with the same arguments in the same order, and the refusals of crates/dna/src/refusals.rt with the same numbers.
+# each with the same arguments in the same order, the refusals of crates/dna/src/refusals.rt with the same numbers, and
+# as many slots of an answer, each where crates/capi/specs/Slots.antt has it.
 # The contracts speak of arguments by name, and a C program hands them over by place; so this is what joins the two.
 # Exit status: 0 they agree; 1 they do not, and what differs is printed; 2 a file is not there.
 set -u
@@ -9,7 +10,8 @@ root=$(CDPATH='' cd -- "$(dirname -- "$0")/.." && pwd) || exit 2
 header=${1:-$root/include/ora.h}
 code=$root/crates/capi/src/lib.rt
 refusals=$root/crates/dna/src/refusals.rt
-for file in "$header" "$code" "$refusals"; do
+slots=$root/crates/capi/specs/Slots.antt
+for file in "$header" "$code" "$refusals" "$slots"; do
   if [ ! -r "$file" ]; then
     echo "check_header: there is no file $file" >&2
     exit 2
@@ -53,13 +55,44 @@ open && /;$/ { open = 0; print text }' "$header" | sort >"$work/declared"
 sed -n 's/^pub const \([A-Z0-9_]*\): u32 = \([0-9]*\);$/ORA_\1 = \2/p' "$refusals" | sort >"$work/numbers"
 sed -n '/^enum ora_refusal {/,/^};/s/^ *\(ORA_[A-Z0-9_]* = [1-9][0-9]*\),\{0,1\}.*/\1/p' "$header" | sort >"$work/named"
 
+# The slots of an answer: as many as the crate's array has, and in each what the definitions put there.
+{
+  sed -n 's/^.*answer: &mut \[u64; \([0-9]*\)\].*/ORA_ANSWER_SLOTS = \1/p' "$code" | sort -u
+  awk '
+  BEGIN {
+    split("number REFUSAL block BLOCK_INDEX read READ_INDEX blocks BLOCKS bytes BLOCK_LENGTH offset OFFSET size LENGTH " \
+      "reads READS letters LETTERS entries ENTRIES differences DIFFERENCES", pairs, " ")
+    for (k = 1; pairs[k] != ""; k += 2) name[pairs[k]] = pairs[k + 1]
+  }
+  / =$|^sectionSlots span = / { open = /^slots outcome|^sectionSlots span/; slot = -1 }
+  open && /^ |^sectionSlots span = / {
+    line = $0; sub(/^sectionSlots span = /, "", line)
+    count = split(line, parts, /∷/)
+    for (k = 1; k <= count; k++) {
+      if (parts[k] ~ /^ *$/ || parts[k] ~ /replicate/) continue
+      slot++
+      fields = split(parts[k], words, /[^.a-z]+/)
+      for (f = 1; f <= fields; f++) {
+        field = words[f]
+        if (sub(/^[.]/, "", field) && field != "counts")
+          print "ORA_" (field in name ? name[field] : "no name of " field) " = " slot
+      }
+    }
+  }' "$slots"
+} | sort >"$work/slots"
+{
+  sed -n 's/^#define ORA_ANSWER_SLOTS \([0-9]*\)$/ORA_ANSWER_SLOTS = \1/p' "$header"
+  sed -n '/^enum ora_slot {/,/^};/s/^ *\(ORA_[A-Z0-9_]* = [0-9]*\),\{0,1\}.*/\1/p' "$header"
+} | sort >"$work/declared_slots"
+
 status=0
-for pair in functions:declared numbers:named; do
+for pair in functions:declared numbers:named slots:declared_slots; do
   if ! diff "$work/${pair%:*}" "$work/${pair#*:}" >"$work/difference" || ! [ -s "$work/${pair%:*}" ]; then
     echo "check_header: ${header#"$root"/} differs from the crates (< the crates have, > the header has):" >&2
     cat "$work/difference" >&2
     status=1
   fi
 done
-[ "$status" -eq 0 ] && echo "header: $(wc -l <"$work/declared") functions and $(wc -l <"$work/named") refusals are those of the crates"
+[ "$status" -eq 0 ] && echo "header: $(wc -l <"$work/declared") functions, $(wc -l <"$work/named") refusals and" \
+  "the slots of an answer are those of the crates"
 exit "$status"
