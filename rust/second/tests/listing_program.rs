@@ -1,7 +1,8 @@
 //! Property: the files of the programs `listing` and `listing_cases` are the
 //! ones made, and the program itself, where it is built, prints what the
-//! second implementation does for every file of the corpus. Catches: a sample
-//! gone stale, a listing that differs in a refusal or in a window.
+//! second implementation does for every file of the corpus, and says what it
+//! cannot read or write. Catches: a sample gone stale, a listing that differs
+//! in a refusal or in a window, a result printed of a file that was not read.
 
 use second::blocks::read_block;
 use second::corpus::parse;
@@ -12,7 +13,7 @@ use second::prng::Prng;
 use second::records::Kind;
 use second::reference::Reference;
 use std::path::{Path, PathBuf};
-use std::process::Command;
+use std::process::{Command, Stdio};
 
 fn tree() -> PathBuf {
     Path::new(env!("CARGO_MANIFEST_DIR")).join("../..")
@@ -62,12 +63,14 @@ fn the_sample_has_all_five_kinds() {
     assert!(kinds.iter().all(|&count| count > 0), "{kinds:?}");
 }
 
-/// What the program prints, or nothing where it is not built.
+/// The program, or nothing where it is not built.
+fn program() -> Option<PathBuf> {
+    Some(tree().join("target/bin/listing")).filter(|program| program.is_file())
+}
+
+/// What the program prints.
 fn printed(name: &str, reference: &[u8], blocks: &[u8]) -> Option<String> {
-    let program = tree().join("target/bin/listing");
-    if !program.is_file() {
-        return None;
-    }
+    let program = program()?;
     let directory = Path::new(env!("CARGO_TARGET_TMPDIR")).join(name);
     std::fs::create_dir_all(&directory).unwrap();
     let paths = [directory.join("reference"), directory.join("blocks")];
@@ -112,4 +115,41 @@ fn the_program_prints_long_files() {
         let Some(text) = printed("long", &reference, &blocks) else { break };
         assert!(text == listing(&reference, &blocks));
     }
+}
+
+/// Standard error says what is wrong, and standard output has no result.
+#[test]
+fn the_program_says_what_it_cannot_read() {
+    let Some(program) = program() else { return };
+    let data = tree().join("crates/listing/data");
+    let [reference, blocks] = ["reference", "blocks"].map(|name| data.join(name));
+    let missing = data.join("missing");
+    let usage = "usage: listing REFERENCE BLOCKS";
+    let cases: [(&[&Path], &str); 7] = [
+        (&[], usage),
+        (&[&reference], usage),
+        (&[&reference, &blocks, &blocks], usage),
+        (&[&missing, &blocks], "missing: No such file"),
+        (&[&reference, &missing], "missing: No such file"),
+        (&[&data, &blocks], "data: Is a directory"),
+        (&[&reference, &data], "data: Is a directory"),
+    ];
+    for (arguments, message) in cases {
+        let output = Command::new(&program).args(arguments).output().unwrap();
+        let said = String::from_utf8_lossy(&output.stderr);
+        assert!(said.contains(message), "{arguments:?}: {said}");
+        assert!(output.stdout.is_empty(), "{arguments:?}");
+    }
+}
+
+#[test]
+fn the_program_says_that_it_cannot_write() {
+    let full = std::fs::OpenOptions::new().write(true).open("/dev/full");
+    let (Some(program), Ok(full)) = (program(), full) else { return };
+    let data = tree().join("crates/listing/data");
+    let mut command = Command::new(program);
+    command.arg(data.join("reference")).arg(data.join("blocks")).stdout(Stdio::from(full));
+    let said = command.output().unwrap().stderr;
+    let said = String::from_utf8_lossy(&said);
+    assert!(said.contains("standard output: No space left"), "{said}");
 }
