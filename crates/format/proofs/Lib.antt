@@ -20,4 +20,5 @@ pub mod WrittenHeader
 pub mod WrittenWellFormed
 pub mod WritesBlocks
 pub mod TestsMean
+pub mod KindMeans
 pub mod RuleMeans

@@ -1,6 +1,6 @@
 -- The writer's tests and the fixed rule are as 01 says. Assumes nothing.
 use mathlib.Core.Path.{_≡_, refl, sym, ap, _∙_}
-use Prim.Native.Nat.{ℕ, _+_, _-_, _<_}
+use Prim.Native.Nat.{ℕ, zero, suc, _+_, _-_, _≤_, _<_}
 use native.Mathlib.Nat.{not-suc-le-zero}
 use native.Mathlib.Omega.{arith}
 use mathlib.Core.Bool.{Bool, true, false, not, _||_}
@@ -12,7 +12,7 @@ use lib.Dec.{leb, ltb, eqb}
 use borrow.Author.Tests.{ltb-true, leb-true, eqb-true, lt-ltb, le-ltb, le-leb, eq-eqb, ne-eqb}
 use borrow.Author.Tests.{ltb-false, eqb-false}
 use Rattle.base.specs.Lists.{any, All, member, stepsFrom}
-use Rattle.base.proofs.ListLaws.{by-test}
+use Rattle.base.proofs.ListLaws.{by-test, by-order}
 use Rattle.base.proofs.Tests.{absurd-test, and-both, both-and, or-neither, neither-or, not-false}
 use Rattle.base.proofs.Tests.{or-right, true-not, not-true, false-not}
 use Rattle.base.proofs.AnswerLaws.{cond-yes, cond-no}
@@ -27,6 +27,7 @@ use Rattle.format.specs.EncodeAnswer.{EncodeInput, readCountTooLarge, ca
 use Rattle.format.specs.EncodeAnswer.{readEndsInvalid, letterInvalid}
 use Rattle.format.specs.RuleEntries.{differsAt, fillerCount}
 use Rattle.format.proofs.TestsMean.{equal-test}
+use Rattle.format.proofs.KindMeans.{kind}
 
 -- ---- The choice
 
@@ -148,6 +149,47 @@ flags id time dnaSize sizes nSection lengths =
 
 -- ---- The writer's numbers
 
+-- One step.
+step-valid : (before end : ℕ) → lengthInvalid (end - before) ≡ false
+    → (before < end) × (end ≤ before + 100_000)
+unfolding lengthInvalid
+step-valid before end e =
+    let both = or-neither (eqb (end - before) 0) _ e in
+    let some = eqb-false (end - before) 0 (both .0) in
+    let few = ltb-false 100_000 (end - before) (both .1) in
+    (by-order before end (λ h. h) (λ h. absurd (some (omega arith))), omega arith)
+
+valid-step : (before end : ℕ) → before < end → end ≤ before + 100_000
+    → lengthInvalid (end - before) ≡ false
+unfolding lengthInvalid
+valid-step before end above within =
+    neither-or _ _ (ne-eqb (end - before) 0 (λ h. omega (arith, h)))
+    (le-ltb 100_000 (end - before) (omega arith))
+
+-- All of them.
+steps-rise : (before : ℕ) (ends : List ℕ) → any lengthInvalid (stepsFrom before ends) ≡ false
+    → (k : ℕ) → k < length ends
+    → (getD (before ∷ ends) k 0 < getD ends k 0)
+    × (getD ends k 0 ≤ getD (before ∷ ends) k 0 + 100_000)
+unfolding any stepsFrom
+steps-rise before [] e k h = absurd (not-suc-le-zero h)
+steps-rise before (end ∷ ends) e zero h =
+    step-valid before end (or-neither (lengthInvalid (end - before)) _ e .0)
+steps-rise before (end ∷ ends) e (suc k) h =
+    steps-rise end ends (or-neither (lengthInvalid (end - before)) _ e .1) k (omega arith)
+
+rise-steps : (before : ℕ) (ends : List ℕ)
+    → ((k : ℕ) → k < length ends
+    → (getD (before ∷ ends) k 0 < getD ends k 0)
+    × (getD ends k 0 ≤ getD (before ∷ ends) k 0 + 100_000))
+    → any lengthInvalid (stepsFrom before ends) ≡ false
+unfolding any stepsFrom
+rise-steps before [] h = refl
+rise-steps before (end ∷ ends) h =
+    let first = h 0 (omega arith) in
+    neither-or _ _ (valid-step before end (first .0) (first .1))
+    (rise-steps end ends (λ k l. h (suc k) (omega arith)))
+
 all-letters : (list : List ℕ) → (any (λ letter. not (member letter (65 ∷ 67 ∷ 71 ∷ 84 ∷ 78 ∷ []))) list ≡ false)
     ↔ All (λ letter. member letter (65 ∷ 67 ∷ 71 ∷ 84 ∷ 78 ∷ []) ≡ true) list
 unfolding any
@@ -182,8 +224,14 @@ writer input =
       thirty-two = (
         λ e.
             let both = or-neither (any lengthInvalid (stepsFrom 0 (input .ends))) _ e in
-            (both .0, equal-test _ _ .0 (both .1)),
-        λ h. neither-or _ _ (h .0) (equal-test _ _ .1 (h .1)),
+            record {
+              above = λ k h. steps-rise 0 (input .ends) (both .0) k h .0;
+              within = λ k h. steps-rise 0 (input .ends) (both .0) k h .1;
+              last = equal-test _ _ .0 (both .1);
+            },
+        λ h.
+            neither-or _ _ (rise-steps 0 (input .ends) (λ k l. (h .above k l, h .within k l)))
+            (equal-test _ _ .1 (h .last)),
       );
       thirty-three = letters (input .letters);
     }
@@ -195,6 +243,7 @@ rule-means =
     record {
       writer = writer;
       choice = choice;
+      kind = kind;
       sizes = sizes;
       flags = flags;
       step = λ previous position. (

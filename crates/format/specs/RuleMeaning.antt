@@ -8,15 +8,23 @@ use mathlib.Core.List.{List, [], _∷_, _++_, map}
 use lib.ListN.{length, getD, take, drop}
 use lib.IntN.{pos}
 use lib.Dec.{eqb}
-use Rattle.base.specs.Lists.{any, member, All, stepsFrom}
-use Rattle.dna.specs.Sizes.{lengthInvalid, same, inByte, inWords}
+use Rattle.base.specs.Lists.{member, All}
+use Rattle.dna.specs.Record.{perfect, global, local}
+use Rattle.dna.specs.Sizes.{same, inByte, inWords}
 use Rattle.format.specs.RuleEntries.{differsAt, fillerCount}
 use Rattle.format.specs.RuleRecord.{Candidate, nOffsetsOf, candidateEntries, placeUsed}
 use Rattle.format.specs.RuleRecord.{chooseRaw4, chooseAligned, chooseRaw, choiceFor}
-use Rattle.format.specs.RuleRecord.{stepFits, clippedCodes}
+use Rattle.format.specs.RuleRecord.{stepFits, fieldFor, storedPosition, expectedAt}
+use Rattle.format.specs.RuleRecord.{padded, clippedCodes, alignedFields}
 use Rattle.format.specs.RuleBlock.{storedFrom, allEqual, writtenHeader}
 use Rattle.format.specs.EncodeAnswer.{EncodeInput, readCountTooLarge}
 use Rattle.format.specs.EncodeAnswer.{candidateCountWrong, readEndsInvalid, letterInvalid}
+
+-- The ends rise from 0 by 1 to 100,000, and the last is the letters' count (0 if no reads).
+pub record EndsRise (ends : List ℕ) (letters : ℕ) : Type 0 where
+  pub above : (k : ℕ) → k < length ends → getD (0 ∷ ends) k 0 < getD ends k 0
+  pub within : (k : ℕ) → k < length ends → getD ends k 0 ≤ getD (0 ∷ ends) k 0 + 100_000
+  pub last : getD (0 ∷ ends) (length ends) 0 ≡ letters
 
 -- 30 to 33: each test fails exactly if its own sentence holds.
 pub record WriterMeans (input : EncodeInput) : Type 0 where
@@ -27,8 +35,7 @@ pub record WriterMeans (input : EncodeInput) : Type 0 where
       × (length (input .lefts) ≡ length (input .ends))
       × (length (input .rights) ≡ length (input .ends)))
   pub thirty-two : (readEndsInvalid input ≡ false)
-      ↔ ((any lengthInvalid (stepsFrom 0 (input .ends)) ≡ false)
-      × (getD (0 ∷ input .ends) (length (input .ends)) 0 ≡ length (input .letters)))
+      ↔ EndsRise (input .ends) (length (input .letters))
   pub thirty-three : (letterInvalid input ≡ false)
       ↔ All (λ letter. member letter (65 ∷ 67 ∷ 71 ∷ 84 ∷ 78 ∷ []) ≡ true) (input .letters)
 
@@ -53,6 +60,25 @@ pub record ChoiceHolds (bases : ℕ) (reference codes : List ℕ) (candidate : C
   pub raw : length (nOffsetsOf codes) ≤ 31
       → (PlaceHolds bases reference codes candidate → ⊥)
       → choiceFor bases reference codes candidate ≡ chooseRaw
+
+-- With no ends: perfect without differences, else global; with ends: local.
+pub record KindHolds (reference : List ℕ) (previous : ℕ) (codes : List ℕ) (candidate : Candidate)
+    : Type 0 where
+  pub without : candidate .left + candidate .right ≡ 0
+      → ((k : ℕ) → k < length codes
+      → differsAt (expectedAt reference codes candidate) codes k ≡ false)
+      → alignedFields reference previous codes candidate
+      ≡ perfect (fieldFor previous (storedPosition codes candidate))
+  pub with : candidate .left + candidate .right ≡ 0 → (k : ℕ) → k < length codes
+      → differsAt (expectedAt reference codes candidate) codes k ≡ true
+      → alignedFields reference previous codes candidate
+      ≡ global (fieldFor previous (storedPosition codes candidate))
+      (candidateEntries reference codes candidate)
+  pub clipped : 0 < candidate .left + candidate .right
+      → alignedFields reference previous codes candidate
+      ≡ local (fieldFor previous (storedPosition codes candidate))
+      (candidateEntries reference codes candidate) (candidate .left) (candidate .right)
+      (padded 4 (clippedCodes codes candidate))
 
 -- Same bit before byte-size bit before words; the first has no length before it.
 pub record SizesHold (previous size : ℕ) (rest : List ℕ) : Type 0 where
@@ -82,6 +108,8 @@ pub record RuleMeans : Type 0 where
   pub writer : (input : EncodeInput) → WriterMeans input
   pub choice : (bases : ℕ) (reference codes : List ℕ) (candidate : Candidate)
       → ChoiceHolds bases reference codes candidate
+  pub kind : (reference : List ℕ) (previous : ℕ) (codes : List ℕ) (candidate : Candidate)
+      → KindHolds reference previous codes candidate
   pub sizes : (previous size : ℕ) (rest : List ℕ) → SizesHold previous size rest
   pub flags : (id time dnaSize : ℕ) (sizes nSection lengths : List ℕ)
       → FlagsHold id time dnaSize sizes nSection lengths
