@@ -70,7 +70,7 @@ code-below (entry ∷ entries) fits zero = fits .0 .code
 code-below (entry ∷ entries) fits (suc k) = code-below entries (fits .1) k
 
 -- A record with an entry has a place.
-with-entries : (fields : RecordFields) (k : ℕ) → k < length (entriesOf fields) → isAligned fields ≡ true
+pub with-entries : (fields : RecordFields) (k : ℕ) → k < length (entriesOf fields) → isAligned fields ≡ true
 unfolding entriesOf isAligned
 with-entries (perfect field) k h = refl
 with-entries (global field entries) k h = refl

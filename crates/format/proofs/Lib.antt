@@ -22,3 +22,4 @@ pub mod WritesBlocks
 pub mod TestsMean
 pub mod KindMeans
 pub mod RuleMeans
+pub mod SpareBitsIgnored

@@ -15,4 +15,5 @@ pub mod Answered
 pub mod Meaning
 pub mod RuleMeaning
 pub mod Demands
+pub mod SpareBits
 pub mod Examples

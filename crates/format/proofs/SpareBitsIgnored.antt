@@ -1,0 +1,25 @@
+-- Bits of a reference past its last base are ignored: every call does the same whatever they hold. Assumes nothing.
+pub mod Records
+pub mod Reading
+pub mod Writing
+use Rattle.format.specs.SpareBits.{SpareBitsIgnored}
+use Rattle.format.proofs.SpareBitsIgnored.Reading.{validatedBlock-same, decoded-same}
+use Rattle.format.proofs.SpareBitsIgnored.Reading.{decodedLetters-same, decodedEnds-same}
+use Rattle.format.proofs.SpareBitsIgnored.Reading.{validated-same}
+use Rattle.format.proofs.SpareBitsIgnored.Writing.{encoded-same, encodedBuffer-same}
+
+pub spare-bits-ignored : SpareBitsIgnored
+spare-bits-ignored bases one other fits fits-too same =
+    record {
+      validateBlock = validatedBlock-same bases one other fits fits-too same;
+      decode = λ input letters ends. (
+        decoded-same bases one other fits fits-too same input letters ends,
+        decodedLetters-same bases one other fits fits-too same input letters ends,
+        decodedEnds-same bases one other fits fits-too same input letters ends,
+      );
+      validate = validated-same bases one other fits fits-too same;
+      encode = λ input out. (
+        encoded-same bases one other fits fits-too same input out,
+        encodedBuffer-same bases one other fits fits-too same input out,
+      );
+    }
