@@ -121,6 +121,13 @@ pub andThen-found : {R A B : Type 0} {answer : Answer R A} (rest : A → ℕ →
 unfolding andThen
 andThen-found rest e more = rw e more
 
+-- An answer goes on alike where what follows it agrees on what it found.
+pub andThen-same : {R A B : Type 0} (answer : Answer R A) (rest more : A → ℕ → Answer R B)
+    → ((a : A) (i : ℕ) → answer ≡ found a i → rest a i ≡ more a i) → andThen answer rest ≡ andThen answer more
+unfolding andThen
+andThen-same (found a i) rest more h = h a i refl
+andThen-same (refused why) rest more h = refl
+
 -- What an answer that found something was made of, handed on.
 pub andThen-parts {ℓ} : {X : Type ℓ} {R A B : Type 0} (answer : Answer R A) (rest : A → ℕ → Answer R B) {b : B} {j : ℕ}
     → andThen answer rest ≡ found b j → ((a : A) (i : ℕ) → answer ≡ found a i → rest a i ≡ found b j → X) → X

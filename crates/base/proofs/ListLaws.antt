@@ -5,7 +5,7 @@ use native.Mathlib.Nat.{add-zero, not-suc-le-zero, le-of-suc-le-suc, lt-of-not-l
 use native.Mathlib.Decide.{decLe}
 use native.Mathlib.Omega.{arith}
 use mathlib.Core.Bool.{Bool, true, false}
-use mathlib.Core.List.{List, [], _∷_, _++_}
+use mathlib.Core.List.{List, [], _∷_, _++_, map}
 use lib.ListN.{length, getD, take, drop, length-append, length-take, length-drop, List·getD-append}
 use lib.ListN.{List·getD-eq-default}
 use lib.Seq.{getD-append-add, getD-take, getD-drop}
@@ -150,3 +150,9 @@ all-left P (x ∷ xs) back h = (h .0, all-left P xs back (h .1))
 pub all-right {ℓ} : {A : Type ℓ} (P : A → Type 0) (front back : List A) → All P (front ++ back) → All P back
 all-right P [] back h = h
 all-right P (x ∷ xs) back h = all-right P xs back (h .1)
+
+-- Two functions that agree on every element of a list map it alike.
+pub map-same : {A B : Type 0} (P : A → Type 0) (f g : A → B) → ((x : A) → P x → f x ≡ g x) → (list : List A)
+    → All P list → map f list ≡ map g list
+map-same P f g h [] all = refl
+map-same P f g h (x ∷ xs) all = ap₂ _∷_ (h x (all .0)) (map-same P f g h xs (all .1))

@@ -3,13 +3,15 @@ use mathlib.Core.Path.{_≡_, refl, sym, ap, ap₂, _∙_, subst}
 use Prim.Native.Nat.{ℕ, zero, suc, _+_, _-_, _≤_, _<_}
 use native.Mathlib.Omega.{arith}
 use native.Mathlib.Nat.{zero-add}
-use mathlib.Core.Bool.{Bool, false, _||_}
+use mathlib.Core.Bool.{Bool, false, cond, _||_}
 use mathlib.Core.List.{List, [], _∷_}
 use lib.ListN.{length}
+use lib.Dec.{eqb}
 use borrow.Author.Tests.{eq-eqb, ne-eqb}
 use Rattle.base.specs.Lists.{build, any, member, keep, placesWhere, placesFrom, stepsFrom}
+use Rattle.base.specs.Lists.{All}
 use Rattle.base.proofs.ListLaws.{by-order, by-test, build-cong}
-use Rattle.base.proofs.Tests.{or-neither, neither-or}
+use Rattle.base.proofs.Tests.{absurd-test, or-neither, neither-or}
 
 -- The n numbers from s on.
 unfoldable pub countUp : (s n : ℕ) → List ℕ
@@ -77,9 +79,19 @@ member-keep test s (suc n) x low high =
     (member-low x (suc s) (suc s + n) (keep test (countUp (suc s) n)) (omega arith) (keep-rises test (suc s) n (suc s + n) (omega arith))
     ∙ sym (ap test (sym is) ∙ t))))
 
+no-places : (n : ℕ) (places : List ℕ) → Rise 0 n places → ((x : ℕ) → x < n → member x places ≡ false) → places ≡ []
+unfolding member any
+no-places n [] r none = refl
+no-places n (x ∷ xs) r none = absurd-test (sym (eq-eqb x x refl) ∙ or-neither (eqb x x) _ (none x (r .1)) .0)
+
 -- A place is among those at which the test holds exactly if it holds there.
 pub member-places : (test : ℕ → Bool) (n x : ℕ) → x < n → member x (placesWhere test n) ≡ test x
 member-places test n x h = ap (member x) (places-count test n) ∙ member-keep test 0 n x (omega arith) (omega arith)
+
+-- A test that holds nowhere has no place.
+pub places-none : (test : ℕ → Bool) (n : ℕ) → ((k : ℕ) → k < n → test k ≡ false) → placesWhere test n ≡ []
+places-none test n none =
+    no-places n (placesWhere test n) (places-rise test n) (λ x h. member-places test n x h ∙ none x h)
 
 -- Steps lead back to the places that they were taken from.
 pub places-steps : (start low bound : ℕ) (places : List ℕ) → start ≤ low → Rise low bound places
@@ -104,3 +116,11 @@ places-any test [] e = refl
 places-any test (x ∷ xs) e =
     let parts = or-neither (test x) _ e in
     rw (parts .0) (places-any test xs (parts .1))
+
+-- Two tests that agree on every element keep the same.
+pub keep-same : (test other : ℕ → Bool) (list : List ℕ) → All (λ k. test k ≡ other k) list
+    → keep test list ≡ keep other list
+unfolding keep
+keep-same test other [] same = refl
+keep-same test other (x ∷ xs) same =
+    ap₂ (λ (t : Bool) (rest : List ℕ). cond t (x ∷ rest) rest) (same .0) (keep-same test other xs (same .1))

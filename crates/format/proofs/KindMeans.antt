@@ -2,16 +2,16 @@
 use mathlib.Core.Path.{_≡_, refl, sym, ap, _∙_}
 use Prim.Native.Nat.{ℕ, suc, _+_, _-_, _*_, _<_}
 use native.Mathlib.Omega.{arith}
-use mathlib.Core.Bool.{Bool, true, false}
+use mathlib.Core.Bool.{true}
 use mathlib.Core.List.{List, [], _∷_}
 use lib.ListN.{length, length-append, getD, take, drop}
 use lib.Seq.{take-all}
 use lib.Dec.{eqb}
 use borrow.Author.Tests.{eq-eqb, ne-eqb}
 use Rattle.base.specs.Lists.{build, part, any, member, placesWhere}
-use Rattle.base.proofs.Tests.{absurd-test, or-neither}
+use Rattle.base.proofs.Tests.{absurd-test}
 use Rattle.base.proofs.AnswerLaws.{cond-yes, cond-no}
-use Rattle.base.proofs.PlacesWhereLaws.{Rise, places-rise, member-places}
+use Rattle.base.proofs.PlacesWhereLaws.{places-none, member-places}
 use Rattle.dna.specs.Record.{Entry}
 use Rattle.format.specs.RuleEntries.{Gap, fillerCount, gapEntries, entriesOfGaps, differsAt}
 use Rattle.format.specs.RuleEntries.{gapsTo, gapsOf}
@@ -19,20 +19,7 @@ use Rattle.format.specs.RuleRecord.{Candidate, alignedCount, expectedAt,
 use Rattle.format.specs.RuleRecord.{candidateEntries, alignedFields}
 use Rattle.format.specs.RuleMeaning.{KindHolds}
 
--- Without differences there is no entry; with one there is.
-no-places : (n : ℕ) (places : List ℕ) → Rise 0 n places
-    → ((x : ℕ) → x < n → member x places ≡ false) → places ≡ []
-unfolding member any
-no-places n [] r none = refl
-no-places n (x ∷ xs) r none =
-    absurd-test (sym (eq-eqb x x refl) ∙ or-neither (eqb x x) _ (none x (r .1)) .0)
-
-none-differs : (test : ℕ → Bool) (n : ℕ) → ((k : ℕ) → k < n → test k ≡ false)
-    → placesWhere test n ≡ []
-none-differs test n none =
-    no-places n (placesWhere test n) (places-rise test n)
-    (λ x h. member-places test n x h ∙ none x h)
-
+-- With a difference there is an entry.
 entries-some : (expected : ℕ → ℕ) (codes : List ℕ) (x n : ℕ) (places : List ℕ)
     → member x places ≡ true → length (entriesOfGaps expected n (gapsTo codes n places)) ≡ 0 → ⊥
 unfolding member any gapsTo entriesOfGaps gapEntries
@@ -76,7 +63,7 @@ module _ (reference : List ℕ) (previous : ℕ) (codes : List ℕ) (candidate :
             ap length
             (entries-whole none
             ∙ ap (λ (places : List ℕ). entriesOfGaps expected 0 (gapsTo codes 0 places))
-            (none-differs (differsAt expected codes) (length codes) same)) in
+            (places-none (differsAt expected codes) (length codes) same)) in
             cond-yes _ (eq-eqb (candidate .left + candidate .right) 0 none) (cond-yes _ (eq-eqb entries 0 empty) refl);
         with = λ none k inside other.
             let some : entries ≡ 0 → ⊥ = λ e.

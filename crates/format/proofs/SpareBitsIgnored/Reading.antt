@@ -10,7 +10,8 @@ use Rattle.base.specs.Faults.{fault}
 use Rattle.base.specs.Answer.{checked, Answer, found, refused, andThen, refusedAs}
 use Rattle.base.specs.Paste.{pasted}
 use Rattle.base.proofs.AnswerLaws.{found-same, checked-found, andThen-parts, found-refusedAs}
-use Rattle.base.proofs.AnswerLaws.{absurd-found, cond-no}
+use Rattle.base.proofs.AnswerLaws.{absurd-found, cond-no, andThen-same}
+use Rattle.base.proofs.ListLaws.{map-same}
 use Rattle.dna.specs.Reference.{ReferenceFits}
 use Rattle.dna.specs.Counts.{Counted, sumCounts}
 use Rattle.dna.specs.Division.{Read, readsOf, divisionLetters, divisionCounts}
@@ -28,21 +29,6 @@ use Rattle.format.specs.FileAnswer.{fileOutcome, validated}
 use Rattle.format.specs.SpareBits.{SameBases}
 use Rattle.format.proofs.SpareBitsIgnored.Records.{ReadInside, walk-inside}
 use Rattle.format.proofs.SpareBitsIgnored.Records.{recordLetters-same, recordCounts-same}
-
--- ---- Lists and answers
-
--- Two functions that agree on every element of a list map it alike.
-map-same : {A B : Type 0} (P : A → Type 0) (f g : A → B) → ((x : A) → P x → f x ≡ g x) → (list : List A) → All P list
-    → map f list ≡ map g list
-map-same P f g h [] all = refl
-map-same P f g h (x ∷ xs) all = ap₂ _∷_ (h x (all .0)) (map-same P f g h xs (all .1))
-
--- An answer goes on alike where what follows it agrees on what it found.
-andThen-same : {R A B : Type 0} (answer : Answer R A) (rest more : A → ℕ → Answer R B)
-    → ((a : A) (i : ℕ) → answer ≡ found a i → rest a i ≡ more a i) → andThen answer rest ≡ andThen answer more
-unfolding andThen
-andThen-same (found a i) rest more h = h a i refl
-andThen-same (refused why) rest more h = refl
 
 -- ---- Divisions
 

@@ -12,7 +12,7 @@ use Rattle.base.specs.Lists.{build, part, keep, placesWhere, All}
 use Rattle.base.specs.Groups.{inGroups}
 use Rattle.base.specs.Paste.{pasted}
 use Rattle.base.proofs.ListLaws.{by-test, build-cong, all-build}
-use Rattle.base.proofs.PlacesWhereLaws.{Rise, rise-weaken, places-rise}
+use Rattle.base.proofs.PlacesWhereLaws.{Rise, rise-weaken, places-rise, keep-same}
 use Rattle.dna.specs.Reference.{ReferenceFits}
 use Rattle.dna.specs.Counts.{zeroCounts}
 use Rattle.dna.specs.Alignment.{positionAfter}
@@ -35,13 +35,6 @@ use Rattle.format.proofs.WrittenRecord.{used}
 use Rattle.format.proofs.SpareBitsIgnored.Records.{strandBase-same}
 
 -- ---- Entries
-
--- Two tests that agree on every element keep the same.
-keep-same : (test other : ℕ → Bool) (list : List ℕ) → All (λ k. test k ≡ other k) list → keep test list ≡ keep other list
-unfolding keep
-keep-same test other [] same = refl
-keep-same test other (x ∷ xs) same =
-    ap₂ (λ (t : Bool) (rest : List ℕ). cond t (x ∷ rest) rest) (same .0) (keep-same test other xs (same .1))
 
 -- Below a bound, two functions give the same.
 abbrev SameBelow : (bound : ℕ) (one other : ℕ → ℕ) → Type 0
