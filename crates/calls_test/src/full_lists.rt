@@ -1,8 +1,8 @@
 // A read with as many entries and as many N as a record can have, 31 each, and clipped at both
-// ends, on either strand. The reference is ACGT sixteen times. Of 40 letters 2 and 3 are clipped, TG
-// and CAT; the 35 aligned ones lie on the bases 10 to 44. N stands on the letters 1 to 31, the
-// entries on the letters 2 to 32. So one entry alone shows: C on letter 32, where the forward strand
-// has A and the reverse strand C.
+// ends, on either strand. The reference is ACGT sixteen times. Of 40 letters 2 and 3 are clipped,
+// TG and CAT; the 35 aligned ones lie on the bases 10 to 44. N stands on the letters 1 to 31, the
+// entries on the letters 2 to 32. So one entry alone shows: C on letter 32, where the forward
+// strand has A and the reverse strand C.
 use crate::block::block_buffer;
 use crate::block::equal_reads;
 use crate::block::put_bytes_at;

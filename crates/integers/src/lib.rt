@@ -130,8 +130,8 @@ pub fn put_u32(out: &mut [u8], at: usize, x: u32)
     put_u16(out, at + 2, (x / 65536) as u16);
 }
 
-// Writes the eight bytes of x at `at`. The compiler makes one store of them only where each is taken
-// from x itself, not from a half.
+// Writes the eight bytes of x at `at`. The compiler makes one store of them only where each is
+// taken from x itself, not from a half.
 pub fn put_u64(out: &mut [u8], at: usize, x: u64)
     requires { ⌜ at + 8 ≤ length (now out) ⌝ }
     ensures { λ _. ⌜ now (out .exit) ≡ pasted (now (out .entry)) at (leBytes 8 x) ⌝ }
