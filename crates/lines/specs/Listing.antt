@@ -93,17 +93,14 @@ nextMove bases reference (byte ∷ bytes) = turnMove bases reference (windowOf (
 
 -- ---- The whole
 
--- The blocks of what is left of a file, at most so many, after `block` of them. The last clause but
--- one is not reached from listing: a block has bytes.
-unfoldable pub blocksText : (most bases : ℕ) (reference rest : List ℕ) (block : ℕ) → List ℕ
-blocksText zero bases reference [] block = endLine block
-blocksText (suc most) bases reference [] block = endLine block
-blocksText zero bases reference (byte ∷ bytes) block = []
-blocksText (suc most) bases reference (byte ∷ bytes) block =
-    let move : ℕ = nextMove bases reference (byte ∷ bytes) in
-    nextText bases reference (byte ∷ bytes) block
-    ++ cond (eqb move 0) []
-    (blocksText most bases reference (drop move (byte ∷ bytes)) (suc block))
+-- What is printed of what is left of a file after `block` blocks, in so many turns and one more,
+-- until the window does not move.
+unfoldable pub blocksText : (most bases : ℕ) (reference left : List ℕ) (block : ℕ) → List ℕ
+blocksText zero bases reference left block = nextText bases reference left block
+blocksText (suc most) bases reference left block =
+    nextText bases reference left block
+    ++ cond (eqb (nextMove bases reference left) 0) []
+    (blocksText most bases reference (drop (nextMove bases reference left) left) (suc block))
 
 -- What the program prints.
 unfoldable pub listing : (referenceFile file : List ℕ) → List ℕ
