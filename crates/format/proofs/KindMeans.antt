@@ -16,7 +16,7 @@ use Rattle.dna.specs.Record.{Entry}
 use Rattle.format.specs.RuleEntries.{Gap, fillerCount, gapEntries, entriesOfGaps, differsAt}
 use Rattle.format.specs.RuleEntries.{gapsTo, gapsOf}
 use Rattle.format.specs.RuleRecord.{Candidate, alignedCount, expectedAt, candidateGaps}
-use Rattle.format.specs.RuleRecord.{candidateEntries, alignedFields}
+use Rattle.format.specs.RuleRecord.{candidateEntries, alignedFields, storedPosition}
 use Rattle.format.specs.RuleMeaning.{KindHolds}
 
 -- With a difference there is an entry.
@@ -54,7 +54,7 @@ module _ (reference : List ℕ) (previous : ℕ) (codes : List ℕ) (candidate :
 
   -- With no ends: perfect without differences, else global; with ends: local.
   pub kind : KindHolds reference previous codes candidate
-  unfolding alignedFields expected entriesOfGaps gapsTo
+  unfolding alignedFields storedPosition expected entriesOfGaps gapsTo
   kind =
       let entries : ℕ = length (candidateEntries reference codes candidate) in
       record {

@@ -19,10 +19,11 @@ use Rattle.base.proofs.AnswerLaws.{cond-yes, cond-no}
 use Rattle.dna.specs.Sizes.{StoredSize, lengthInvalid}
 use Rattle.format.specs.RuleRecord.{Candidate, nOffsetsOf, alignedCount, candidateEntries}
 use Rattle.format.specs.RuleRecord.{placeUsed, choiceFor, stepFits, withoutN, clippedCodes}
+use Rattle.format.specs.RuleRecord.{written, writtenAs}
 use Rattle.format.specs.RuleBlock.{storedFrom, allEqual, headerWith, writtenFields}
 use Rattle.format.specs.RuleBlock.{writtenHeader}
 use Rattle.format.specs.RuleMeaning.{WriterMeans, PlaceHolds, ChoiceHolds, SizesHold}
-use Rattle.format.specs.RuleMeaning.{FlagsHold, RuleMeans}
+use Rattle.format.specs.RuleMeaning.{FlagsHold, WrittenHolds, RuleMeans}
 use Rattle.format.specs.EncodeAnswer.{EncodeInput, readCountTooLarge, candidateCountWrong}
 use Rattle.format.specs.EncodeAnswer.{readEndsInvalid, letterInvalid}
 use Rattle.format.specs.RuleEntries.{differsAt, fillerCount}
@@ -80,6 +81,18 @@ module _ (bases : ℕ) (reference codes : List ℕ) (candidate : Candidate) wher
         aligned = λ few h. cond-no _ (le-ltb 31 n few) (cond-yes _ (holds-used h) refl);
         raw = λ few wrong. cond-no _ (le-ltb 31 n few) (cond-no _ (not-used wrong) refl);
       }
+
+-- ---- The record of a choice
+
+written-holds : (bases : ℕ) (reference : List ℕ) (previous : ℕ) (codes : List ℕ) (candidate : Candidate)
+    → WrittenHolds bases reference previous codes candidate
+unfolding written writtenAs withoutN
+written-holds bases reference previous codes candidate =
+    record {
+      as-raw4 = λ e. rw e refl;
+      as-aligned = λ e. rw e (refl, (eqb-true (candidate .strand) 1, eq-eqb (candidate .strand) 1));
+      as-raw = λ e. rw e refl;
+    }
 
 -- ---- Lengths
 
@@ -244,6 +257,7 @@ rule-means =
       writer = writer;
       choice = choice;
       kind = kind;
+      written = written-holds;
       sizes = sizes;
       flags = flags;
       step = λ previous position. (

@@ -9,17 +9,17 @@ use Rattle.format.proofs.SpareBitsIgnored.Reading.{validated-same}
 use Rattle.format.proofs.SpareBitsIgnored.Writing.{encoded-same, encodedBuffer-same}
 
 pub spare-bits-ignored : SpareBitsIgnored
-spare-bits-ignored bases one other fits fits-too same =
+spare-bits-ignored bases one other sizes same =
     record {
-      validateBlock = validatedBlock-same bases one other fits fits-too same;
+      validateBlock = validatedBlock-same bases one other sizes same;
       decode = λ input letters ends. (
-        decoded-same bases one other fits fits-too same input letters ends,
-        decodedLetters-same bases one other fits fits-too same input letters ends,
-        decodedEnds-same bases one other fits fits-too same input letters ends,
+        decoded-same bases one other sizes same input letters ends,
+        decodedLetters-same bases one other sizes same input letters ends,
+        decodedEnds-same bases one other sizes same input letters ends,
       );
-      validate = validated-same bases one other fits fits-too same;
+      validate = validated-same bases one other sizes same;
       encode = λ input out. (
-        encoded-same bases one other fits fits-too same input out,
-        encodedBuffer-same bases one other fits fits-too same input out,
+        encoded-same bases one other sizes same input out,
+        encodedBuffer-same bases one other sizes same input out,
       );
     }

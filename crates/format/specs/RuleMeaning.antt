@@ -9,13 +9,13 @@ use lib.ListN.{length, getD, take, drop}
 use lib.IntN.{pos}
 use lib.Dec.{eqb}
 use Rattle.base.specs.Lists.{member, All}
-use Rattle.dna.specs.Record.{perfect, global, local}
+use Rattle.dna.specs.Record.{perfect, global, local, raw, raw4}
 use Rattle.dna.specs.Sizes.{same, inByte, inWords}
 use Rattle.format.specs.RuleEntries.{differsAt, fillerCount}
 use Rattle.format.specs.RuleRecord.{Candidate, nOffsetsOf, candidateEntries, placeUsed}
 use Rattle.format.specs.RuleRecord.{chooseRaw4, chooseAligned, chooseRaw, choiceFor}
-use Rattle.format.specs.RuleRecord.{stepFits, fieldFor, storedPosition, expectedAt}
-use Rattle.format.specs.RuleRecord.{padded, clippedCodes, alignedFields}
+use Rattle.format.specs.RuleRecord.{stepFits, fieldFor, expectedAt}
+use Rattle.format.specs.RuleRecord.{padded, clippedCodes, alignedFields, written}
 use Rattle.format.specs.RuleBlock.{storedFrom, allEqual, writtenHeader}
 use Rattle.format.specs.EncodeAnswer.{EncodeInput, readCountTooLarge}
 use Rattle.format.specs.EncodeAnswer.{candidateCountWrong, readEndsInvalid, letterInvalid}
@@ -68,17 +68,32 @@ pub record KindHolds (reference : List ℕ) (previous : ℕ) (codes : List ℕ) 
       → ((k : ℕ) → k < length codes
       → differsAt (expectedAt reference codes candidate) codes k ≡ false)
       → alignedFields reference previous codes candidate
-      ≡ perfect (fieldFor previous (storedPosition codes candidate))
+      ≡ perfect (fieldFor previous (candidate .position))
   pub with : candidate .left + candidate .right ≡ 0 → (k : ℕ) → k < length codes
       → differsAt (expectedAt reference codes candidate) codes k ≡ true
       → alignedFields reference previous codes candidate
-      ≡ global (fieldFor previous (storedPosition codes candidate))
+      ≡ global (fieldFor previous (candidate .position))
       (candidateEntries reference codes candidate)
   pub clipped : 0 < candidate .left + candidate .right
       → alignedFields reference previous codes candidate
-      ≡ local (fieldFor previous (storedPosition codes candidate))
+      ≡ local (fieldFor previous (candidate .position))
       (candidateEntries reference codes candidate) (candidate .left) (candidate .right)
       (padded 4 (clippedCodes codes candidate))
+
+-- What is written for each choice: raw4; the record at the place, forward exactly if strand is 1;
+-- raw. Letters under N are stored as A in a raw one.
+pub record WrittenHolds (bases : ℕ) (reference : List ℕ) (previous : ℕ) (codes : List ℕ)
+    (candidate : Candidate) : Type 0 where
+  pub as-raw4 : choiceFor bases reference codes candidate ≡ chooseRaw4
+      → written bases reference previous codes candidate .stored .fields ≡ raw4 (padded 2 codes)
+  pub as-aligned : choiceFor bases reference codes candidate ≡ chooseAligned
+      → (written bases reference previous codes candidate .stored .fields
+      ≡ alignedFields reference previous codes candidate)
+      × ((written bases reference previous codes candidate .context .forward ≡ true)
+      ↔ (candidate .strand ≡ 1))
+  pub as-raw : choiceFor bases reference codes candidate ≡ chooseRaw
+      → written bases reference previous codes candidate .stored .fields
+      ≡ raw (padded 4 (map (λ code. cond (eqb code 4) 0 code) codes))
 
 -- Same bit before byte-size bit before words; the first has no length before it.
 pub record SizesHold (previous size : ℕ) (rest : List ℕ) : Type 0 where
@@ -110,6 +125,8 @@ pub record RuleMeans : Type 0 where
       → ChoiceHolds bases reference codes candidate
   pub kind : (reference : List ℕ) (previous : ℕ) (codes : List ℕ) (candidate : Candidate)
       → KindHolds reference previous codes candidate
+  pub written : (bases : ℕ) (reference : List ℕ) (previous : ℕ) (codes : List ℕ)
+      (candidate : Candidate) → WrittenHolds bases reference previous codes candidate
   pub sizes : (previous size : ℕ) (rest : List ℕ) → SizesHold previous size rest
   pub flags : (id time dnaSize : ℕ) (sizes nSection lengths : List ℕ)
       → FlagsHold id time dnaSize sizes nSection lengths

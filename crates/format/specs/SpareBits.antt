@@ -4,15 +4,17 @@
 use Prim.Native.Nat.{ℕ, _<_}
 use mathlib.Core.Path.{_≡_}
 use mathlib.Core.List.{List}
-use Rattle.dna.specs.Reference.{referenceBase, ReferenceFits}
+use lib.ListN.{length}
+use Rattle.base.specs.Packed.{symbolAt}
 use Rattle.format.specs.BlockAnswer.{validatedBlock, decoded, decodedLetters, decodedEnds}
 use Rattle.format.specs.FileAnswer.{validated}
 use Rattle.format.specs.EncodeAnswer.{EncodeInput, encoded, encodedBuffer}
 
--- Two references agree on each of so many bases, whatever stands past them.
+-- Two references agree on each of so many bases, four a byte, the first highest, whatever stands
+-- past them.
 abbrev pub SameBases : (bases : ℕ) (one other : List ℕ) → Type 0
 SameBases bases one other =
-    (index : ℕ) → index < bases → referenceBase one index ≡ referenceBase other index
+    (index : ℕ) → index < bases → symbolAt 4 4 one index ≡ symbolAt 4 4 other index
 
 -- Every call that is given a reference does the same with one as with the other.
 pub record SameCalls (bases : ℕ) (one other : List ℕ) : Type 0 where
@@ -35,5 +37,5 @@ pub record SameCalls (bases : ℕ) (one other : List ℕ) : Type 0 where
 -- 01: bits past G are ignored.
 abbrev pub SpareBitsIgnored : Type 0
 SpareBitsIgnored =
-    (bases : ℕ) (one other : List ℕ) → ReferenceFits bases one → ReferenceFits bases other
-    → SameBases bases one other → SameCalls bases one other
+    (bases : ℕ) (one other : List ℕ) → length one ≡ length other → SameBases bases one other
+    → SameCalls bases one other

@@ -10,9 +10,9 @@ use Rattle.base.specs.Faults.{fault}
 use Rattle.base.specs.Answer.{checked, Answer, found, refused, andThen, refusedAs}
 use Rattle.base.specs.Paste.{pasted}
 use Rattle.base.proofs.AnswerLaws.{found-same, checked-found, andThen-parts, found-refusedAs}
-use Rattle.base.proofs.AnswerLaws.{absurd-found, cond-no, andThen-same}
+use Rattle.base.proofs.AnswerLaws.{absurd-found, cond-parts, andThen-same}
 use Rattle.base.proofs.ListLaws.{map-same}
-use Rattle.dna.specs.Reference.{ReferenceFits}
+use Rattle.dna.specs.Reference.{referenceSizeWrong}
 use Rattle.dna.specs.Counts.{Counted, sumCounts}
 use Rattle.dna.specs.Division.{Read, readsOf, divisionLetters, divisionCounts}
 use Rattle.dna.specs.Walk.{ofRead, Walk, refusedAt, sectionWalk}
@@ -27,7 +27,7 @@ use Rattle.format.specs.BlockAnswer.{endsAfter, decodedLetters, decodedE
 use Rattle.format.specs.FileAnswer.{BlockRefusal, inFirst, inLater, blocksAnswer, fileAnswer}
 use Rattle.format.specs.FileAnswer.{fileOutcome, validated}
 use Rattle.format.specs.SpareBits.{SameBases}
-use Rattle.format.proofs.SpareBitsIgnored.Records.{ReadInside, walk-inside}
+use Rattle.format.proofs.SpareBitsIgnored.Records.{ReadInside, walk-inside, sizeWrong-same}
 use Rattle.format.proofs.SpareBitsIgnored.Records.{recordLetters-same, recordCounts-same}
 
 -- ---- Divisions
@@ -71,11 +71,11 @@ blockAnswer-inside bases reference input e =
     subst (λ (d : BlockDivision). DividedInside bases d) (found-same (checked-found (ofRead 0) _ _ e₄ .1) .0)
     (record { reads = walk-inside bases lengths nSection dna e₃ })))
 
-module _ (bases : ℕ) (one other : List ℕ) (fits : ReferenceFits bases one) (fits-too : ReferenceFits bases other)
+module _ (bases : ℕ) (one other : List ℕ) (sizes : length one ≡ length other)
     (same : SameBases bases one other) where
   blockAnswer-same : (input : List ℕ) → blockAnswer bases one input ≡ blockAnswer bases other input
   unfolding blockAnswer
-  blockAnswer-same input = rw (fits .fits, fits-too .fits) refl
+  blockAnswer-same input = rw (sizeWrong-same bases one other sizes) refl
 
   blockOutcome-same : (answer : Walk BlockDivision)
       → ((divided : BlockDivision) (next : ℕ) → answer ≡ found divided next → DividedInside bases divided)
@@ -194,10 +194,14 @@ module _ (bases : ℕ) (one other : List ℕ) (fits : ReferenceFits bases one) (
       (inside ds end refl))
   fileOutcome-same (refused why) inside = refl
 
+  fileAnswer-same : (file : List ℕ) → fileAnswer bases one file ≡ fileAnswer bases other file
+  unfolding fileAnswer
+  fileAnswer-same file = rw (sizeWrong-same bases one other sizes, blocksAnswer-same (length file) file) refl
+
   pub validated-same : (file : List ℕ) → validated bases one file ≡ validated bases other file
   unfolding validated fileAnswer
   validated-same file =
-      let found-other : fileAnswer bases other file ≡ blocksAnswer (length file) bases other file = cond-no _ (fits-too .fits) refl in
-      ap (fileOutcome one bases) (cond-no _ (fits .fits) (blocksAnswer-same (length file) file))
-      ∙ fileOutcome-same (blocksAnswer (length file) bases other file) (λ ds end e. blocksAnswer-inside (length file) file e)
-      ∙ ap (fileOutcome other bases) (sym found-other)
+      ap (fileOutcome one bases) (fileAnswer-same file)
+      ∙ fileOutcome-same (fileAnswer bases other file) (λ ds end e.
+      cond-parts (referenceSizeWrong bases other) _ _ e (λ t g. absurd-found g)
+      (λ t g. blocksAnswer-inside (length file) file g))

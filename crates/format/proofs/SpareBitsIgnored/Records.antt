@@ -1,9 +1,9 @@
 -- What is read of a reference for a record that 15 and 17 do not fit lies inside it, so that its letters and counts
 -- depend on the bases alone; and every record that the walk finds is such. Assumes nothing.
 use mathlib.Core.Path.{_≡_, refl, sym, ap, subst}
-use Prim.Native.Nat.{ℕ, suc, _+_, _-_, _≤_, _<_}
+use Prim.Native.Nat.{ℕ, suc, _+_, _-_, _/_, _≤_, _<_}
 use native.Mathlib.Omega.{arith}
-use mathlib.Core.Bool.{Bool, true, false, cond, not, _&&_}
+use mathlib.Core.Bool.{Bool, true, false, cond, not, _&&_, _||_}
 use mathlib.Core.List.{List, [], _∷_, map}
 use lib.ListN.{length, getD, drop, length-map}
 use lib.Dec.{ltb, eqb}
@@ -16,7 +16,8 @@ use Rattle.base.proofs.ListLaws.{build-cong, all-append}
 use Rattle.base.proofs.Tests.{or-neither}
 use Rattle.base.proofs.AnswerLaws.{found-same, checked-found, andThen-parts, found-refusedAs}
 use Rattle.base.proofs.AnswerLaws.{cond-parts}
-use Rattle.dna.specs.Reference.{strandBase, letterOfCode, complement}
+use Rattle.dna.specs.Reference.{maxReferenceBases, referenceSizeWrong}
+use Rattle.dna.specs.Reference.{referenceBase, strandBase, letterOfCode, complement}
 use Rattle.dna.specs.Record.{ReadContext, RecordFields, StoredRecord, fieldsBytes, hasNList}
 use Rattle.dna.specs.Alignment.{isAligned, entriesOf, leftOf, alignedLength, leftmost}
 use Rattle.dna.specs.Alignment.{positionAfter, referenceIndex, entryPlaces, nPositions}
@@ -46,9 +47,16 @@ pub record RecordInside (context : ReadContext) (fields : RecordFields) : Type 0
 pub strandBase-same : (bases : ℕ) (one other : List ℕ) → SameBases bases one other → (forward : Bool) (index : ℕ)
     → index < bases
     → strandBase one forward index ≡ strandBase other forward index
-unfolding strandBase
+unfolding strandBase referenceBase
 strandBase-same bases one other same true index h = same index (omega arith)
 strandBase-same bases one other same false index h = ap complement (same index (omega arith))
+
+-- 1 looks at the number of bytes alone.
+pub sizeWrong-same : (bases : ℕ) (one other : List ℕ) → length one ≡ length other
+    → referenceSizeWrong bases one ≡ referenceSizeWrong bases other
+unfolding referenceSizeWrong
+sizeWrong-same bases one other sizes =
+    ap (λ (n : ℕ). ltb maxReferenceBases bases || not (eqb n ((bases + 3) / 4))) sizes
 
 -- The reference index under an aligned letter is inside the reference.
 index-inside : (context : ReadContext) (fields : RecordFields) (k : ℕ) → RecordInside context fields

@@ -13,7 +13,6 @@ use Rattle.base.specs.Groups.{inGroups}
 use Rattle.base.specs.Paste.{pasted}
 use Rattle.base.proofs.ListLaws.{by-test, build-cong, all-build}
 use Rattle.base.proofs.PlacesWhereLaws.{Rise, rise-weaken, places-rise, keep-same}
-use Rattle.dna.specs.Reference.{ReferenceFits}
 use Rattle.dna.specs.Counts.{zeroCounts}
 use Rattle.dna.specs.Alignment.{positionAfter}
 use Rattle.dna.specs.Record.{Entry, RecordFields, maxEntries}
@@ -32,7 +31,7 @@ use Rattle.format.specs.EncodeAnswer.{blockCapacityTooSmall, encodeFault
 use Rattle.format.specs.EncodeAnswer.{encoded, encodedBuffer}
 use Rattle.format.specs.SpareBits.{SameBases}
 use Rattle.format.proofs.WrittenRecord.{used}
-use Rattle.format.proofs.SpareBitsIgnored.Records.{strandBase-same}
+use Rattle.format.proofs.SpareBitsIgnored.Records.{strandBase-same, sizeWrong-same}
 
 -- ---- Entries
 
@@ -165,12 +164,12 @@ module _ (bases : ℕ) (one other : List ℕ) (same : SameBases bases one other)
 
 -- ---- Encoding
 
-module _ (bases : ℕ) (one other : List ℕ) (fits : ReferenceFits bases one) (fits-too : ReferenceFits bases other)
+module _ (bases : ℕ) (one other : List ℕ) (sizes : length one ≡ length other)
     (same : SameBases bases one other) where
   encodeNumber-same : (input : EncodeInput) (out : List ℕ)
       → encodeNumber bases one input out ≡ encodeNumber bases other input out
   unfolding encodeNumber encodeFaults blockCapacityTooSmall
-  encodeNumber-same input out = rw (fits .fits, fits-too .fits, blockOf-same bases one other same input) refl
+  encodeNumber-same input out = rw (sizeWrong-same bases one other sizes, blockOf-same bases one other same input) refl
 
   pub encoded-same : (input : EncodeInput) (out : List ℕ) → encoded bases one input out ≡ encoded bases other input out
   unfolding encoded
