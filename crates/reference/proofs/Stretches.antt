@@ -7,6 +7,7 @@ use mathlib.Core.List.{List}
 use lib.ListN.{length, getD, set}
 use Rattle.base.specs.Numbers.{leBytes}
 use Rattle.base.specs.Paste.{pasted}
+use Rattle.base.proofs.ListLaws.{below-at}
 use Rattle.base.proofs.NumberLaws.{pasted-leBytes}
 use Rattle.base.proofs.FilledLaws.{Filled, filled-none, filled-more, filled-next, filled-all}
 use Rattle.dna.specs.Reference.{strandBase, stretchIndex, letterOfCode, stretchLetters}
@@ -72,12 +73,12 @@ module _ (reference : List ℕ) (forward : Bool) (leftmost bases : ℕ) where
   pair-written {old} {now} table new place k i j one other words lent written room inside both e there here small
       here′ small′ start start′ =
       let low : ℕ = getD table one 0 in
-      let fits = table-fits table forward lent in
+      let fits = below-at table (omega arith) (table-fits table forward lent) in
       let half : List ℕ = pasted now place (leBytes 4 low) in
       let joined =
       pasted-leBytes 4 4 now half (pasted half (place + 4) (leBytes 4 (getD table other 0))) place (place + 4) words low
       (getD table other 0) (omega (arith, written .sized)) refl
-      (omega (arith, fits .below one, fits .below other)) (omega (arith, fits .below one, fits .below other)) refl refl in
+      (omega (arith, fits one, fits other)) (omega (arith, fits one, fits other)) refl refl in
       byte-written table new (place + 4) (8 * k + 4) j other (8 * (k + 1)) lent
       (byte-written table half place (8 * k) i one (8 * k + 4) lent written room (omega arith) refl there here small start
       refl)

@@ -5,12 +5,12 @@ use native.Mathlib.Nat.{zero-lt-suc}
 use native.Mathlib.Omega.{arith}
 use mathlib.Core.Bool.{Bool}
 use mathlib.Core.List.{List, [], _∷_}
-use lib.ListN.{length, getD, List·getD-eq-default}
-use Rattle.base.specs.Lists.{AllBytes}
+use lib.ListN.{length, getD}
+use Rattle.base.specs.Lists.{Below, AllBytes}
 use Rattle.base.specs.Numbers.{le, leBytes}
 use Rattle.base.specs.Packed.{digit, symbolAt}
 use Rattle.base.specs.Paste.{pasted}
-use Rattle.base.proofs.ListLaws.{length-build, getD-build, by-order}
+use Rattle.base.proofs.ListLaws.{length-build, getD-build}
 use Rattle.base.proofs.NumberLaws.{length-leBytes, leBytes-le, le-below}
 use Rattle.base.proofs.AtLaws.{at-self, at-same}
 use Rattle.base.proofs.PackedLaws.{byteOf-below, byteOf-cong, digit-byteOf, byteOf-digit}
@@ -19,7 +19,7 @@ use Rattle.dna.specs.Reference.{referenceBase, stretchLetters}
 use Rattle.dna.proofs.ReferenceLaws.{referenceBase-below, length-stretchLetters}
 use Rattle.dna.proofs.ReferenceLaws.{stretchLetters-bytes, stretchLetters-same}
 use Rattle.reference.specs.Stretch.{basesByte}
-use Rattle.reference.specs.Tables.{byteWord, wordTable, WordsFit}
+use Rattle.reference.specs.Tables.{byteWord, wordTable}
 
 -- ---- A word and its bytes
 
@@ -81,17 +81,15 @@ byteWord-below : (forward : Bool) (byte : ℕ) → byteWord forward byte < 2 ^ 3
 unfolding byteWord
 byteWord-below forward byte = le-below 4 _ 0 (stretchLetters-bytes (byte ∷ []) forward 0 4)
 
--- So a table's words have their room.
-pub table-fits : (table : List ℕ) (forward : Bool) → table ≡ wordTable forward → WordsFit table
-table-fits table forward lent = record {
-  below = λ byte.
-      rw lent
-      (by-order byte 256
-      (λ small. subst (λ (w : ℕ). w < 2 ^ 32) (sym (getD-wordTable forward byte small)) (byteWord-below forward byte))
-      (λ past.
-      let size = length-wordTable forward in
-      subst (λ (w : ℕ). w < 2 ^ 32) (sym (List·getD-eq-default (wordTable forward) 0 (omega arith))) (omega arith)));
-}
+-- So is each of a table.
+pub table-fits : (table : List ℕ) (forward : Bool) → table ≡ wordTable forward → Below (2 ^ 32) table
+table-fits table forward lent =
+    rw lent
+    (record {
+      each = λ byte h.
+          let size = length-wordTable forward in
+          subst (λ (w : ℕ). w < 2 ^ 32) (sym (getD-wordTable forward byte (omega arith))) (byteWord-below forward byte);
+    })
 
 -- ---- The letters of a word
 

@@ -9,8 +9,9 @@ use integers::wide64;
 use packing::symbol2;
 ghost use mathlib.Core.Path.{_≡_};
 ghost use mathlib.Core.Bool.{Bool, true, false};
-ghost use Prim.Native.Nat.{_+_, _-_, _*_, _/_, _<_, _≤_};
+ghost use Prim.Native.Nat.{_+_, _-_, _*_, _/_, _<_, _≤_, _^_};
 ghost use lib.ListN.{length, getD};
+ghost use Rattle.base.specs.Lists.{Below};
 ghost use Rattle.base.specs.Paste.{pasted};
 ghost use Rattle.dna.specs.Reference.{
   maxReferenceBases,
@@ -23,7 +24,7 @@ ghost use Rattle.dna.specs.Reference.{
   stretchLetters,
 };
 ghost use Rattle.reference.specs.Stretch.{StretchFits, basesByte};
-ghost use Rattle.reference.specs.Tables.{byteWord, wordTable, WordsFit};
+ghost use Rattle.reference.specs.Tables.{byteWord, wordTable};
 
 // The most bases that a reference may have.
 pub const MAX_REFERENCE_BASES: u64 = 4_294_967_295;
@@ -238,7 +239,7 @@ fn put_pairs_reverse(
 // Writes the letters of the four bases from an index on, on the strand whose table is lent.
 fn put_four(reference: &[u8], index: usize, table: &[u64; 256], out: &mut [u8], at: usize)
     requires { ⌜ (StretchFits (now reference) index 4) × (at + 4 ≤ length (now out))
-        × (WordsFit (now table)) ⌝ }
+        × (Below (2 ^ 32) (now table)) ⌝ }
     ensures { λ _. ⌜ ((forward : Bool) → now (table .entry) ≡ wordTable forward
         → now (out .exit)
         ≡ pasted (now (out .entry)) at
@@ -249,7 +250,7 @@ fn put_four(reference: &[u8], index: usize, table: &[u64; 256], out: &mut [u8], 
 
 // The eight letters of two bytes of the reference, as one number, by the table of a strand.
 pub fn two_words(table: &[u64; 256], first: u8, second: u8) -> u64
-    requires { ⌜ WordsFit (now table) ⌝ }
+    requires { ⌜ Below (2 ^ 32) (now table) ⌝ }
     ensures { λ r. ⌜ r ≡ getD (now (table .entry)) first 0
         + 4294967296 * getD (now (table .entry)) second 0 ⌝ }
 {

@@ -4,6 +4,7 @@ use mathlib.Core.Path.{_∙_, ap}
 use native.Mathlib.Omega.{arith}
 use borrow.Author.Needs.{needs}
 use Rattle.base.specs.Paste.{pasted}
+use Rattle.base.proofs.ListLaws.{below-at}
 use Rattle.reference.proofs.Words.{table-letters}
 use Rattle.reference.proofs.put_four.Statement.{statement}
 use Rattle.reference.proofs.put_four.Tie as tie
@@ -21,7 +22,7 @@ cast-put-u32 : tie.Need-cast-put-u32
 cast-put-u32 c =
     let read = c .before in
     let start = read .before .before .before .before in
-    omega (arith, start .pre .2 .below (read .bases-byte .result))
+    omega (arith, below-at (start .args .table .now) (omega arith) (start .pre .2) (read .bases-byte .result))
 
 put-u32-requires : tie.Need-put-u32-requires
 put-u32-requires c κs = search needs

@@ -1,16 +1,16 @@
 -- `reference::put_stretch_forward` meets its contract: four writes leave no gap. Assumes nothing.
-use Prim.Native.Nat.{ℕ, _-_, _*_, _/_, _%_}
+use Prim.Native.Nat.{ℕ, _-_, _*_, _/_, _%_, _^_}
 use native.Mathlib.Omega.{arith}
 use mathlib.Core.Bool.{true}
 use borrow.Author.Needs.{needs}
-use Rattle.reference.specs.Tables.{WordsFit}
+use Rattle.base.specs.Lists.{Below}
 use Rattle.reference.proofs.Words.{table-fits}
 use Rattle.reference.proofs.Stretches.{ends-and-bytes}
 use Rattle.reference.proofs.put_stretch_forward.Statement.{statement}
 use Rattle.reference.proofs.put_stretch_forward.Tie as tie
 
 -- The words of the table fit.
-fits : (c : tie.Start) → WordsFit (c .args .table .now)
+fits : (c : tie.Start) → Below (2 ^ 32) (c .args .table .now)
 fits c = table-fits (c .args .table .now) true (c .pre .2)
 
 put-letters-requires : tie.Need-put-letters-requires

@@ -1,11 +1,16 @@
 -- `reference::two_words` meets its contract: two words are below 2 ^ 64. Assumes nothing.
-use Prim.Native.Nat.{ℕ, _+_, _*_}
+use Prim.Native.Nat.{ℕ, _+_, _*_, _<_, _^_}
 use mathlib.Core.Path.{ap, ap₂}
 use lib.ListN.{getD}
 use native.Mathlib.Omega.{arith}
+use Rattle.base.proofs.ListLaws.{below-at}
 use borrow.Author.Needs.{needs}
 use Rattle.reference.proofs.two_words.Statement.{statement}
 use Rattle.reference.proofs.two_words.Tie as tie
+
+-- Every word is below 2 ^ 32.
+fits : (c : tie.Start) (byte : ℕ) → getD (c .args .table .now) byte 0 < 2 ^ 32
+fits c byte = below-at (c .args .table .now) (omega arith) (c .pre) byte
 
 size8-requires : tie.Need-size8-requires
 size8-requires c κs = search needs
@@ -27,12 +32,13 @@ element-copy-out-result-2 c = search needs
 
 mul-result-3 : tie.Need-mul-result-3
 mul-result-3 c =
-    omega (arith, c .before .before .before .before .pre .below (c .before .size82 .result))
+    let start = c .before .before .before .before in
+    omega (arith, fits start (c .before .size82 .result))
 
 add-result : tie.Need-add-result
 add-result c =
-    let words = c .before .before .before .before .pre in
-    omega (arith, words .below (c .before .before .before .size8 .result), words .below (c .before .size82 .result))
+    let start = c .before .before .before .before in
+    omega (arith, fits start (c .before .before .before .size8 .result), fits start (c .before .size82 .result))
 
 returns : tie.Need-returns
 returns c =
