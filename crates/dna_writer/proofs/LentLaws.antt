@@ -7,7 +7,7 @@ use mathlib.Core.Bool.{Bool, true, false, not, _||_}
 use mathlib.Core.List.{List, [], _∷_}
 use lib.ListN.{length, getD}
 use lib.Dec.{ltb, eqb}
-use borrow.Author.Tests.{eqb-true, eqb-false, ltb-false}
+use borrow.Author.Tests.{eqb-true, ltb-false}
 use Rattle.base.specs.Lists.{any, member, stepsFrom}
 use Rattle.base.specs.Faults.{Fault}
 use Rattle.base.proofs.AnswerLaws.{any-firstNumber}
@@ -17,6 +17,7 @@ use Rattle.dna.specs.Sizes.{maxReadLength, lengthInvalid}
 use Rattle.format.specs.HeaderFaults.{maxReads}
 use Rattle.format.specs.EncodeAnswer.{EncodeInput, readCountTooLarge, candidateCountWrong}
 use Rattle.format.specs.EncodeAnswer.{readEndsInvalid, letterInvalid, encodeFaults}
+use Rattle.format.proofs.RuleMeans.{step-valid}
 use Rattle.letter_packing.specs.Read.{ReadLies}
 use Rattle.dna_writer.specs.Lent.{lentNumber}
 
@@ -43,16 +44,6 @@ pub record Between (before end last : ℕ) : Type 0 where
   pub rises : before < end
   pub short : end ≤ before + maxReadLength
   pub within : end ≤ last
-
-step-valid : (before end : ℕ) → lengthInvalid (end - before) ≡ false
-    → (before < end) × (end ≤ before + maxReadLength)
-unfolding lengthInvalid
-step-valid before end right =
-    let some : end - before ≡ 0 → ⊥ =
-    eqb-false (end - before) 0 (or-neither (eqb (end - before) 0) _ right .0) in
-    let short : end - before ≤ maxReadLength =
-    ltb-false maxReadLength (end - before) (or-neither (eqb (end - before) 0) _ right .1) in
-    (omega arith, omega arith)
 
 last-high : (start : ℕ) (ends : List ℕ) → any lengthInvalid (stepsFrom start ends) ≡ false
     → start ≤ getD (start ∷ ends) (length ends) 0

@@ -12,7 +12,7 @@ use lib.Dec.{leb, ltb, eqb}
 use borrow.Author.Tests.{ltb-true, leb-true, eqb-true, lt-ltb, le-ltb, le-leb, eq-eqb, ne-eqb}
 use borrow.Author.Tests.{ltb-false, eqb-false}
 use Rattle.base.specs.Lists.{any, All, member, stepsFrom}
-use Rattle.base.proofs.ListLaws.{by-test, by-order}
+use Rattle.base.proofs.ListLaws.{by-test}
 use Rattle.base.proofs.Tests.{absurd-test, and-both, both-and, or-neither, neither-or, not-false}
 use Rattle.base.proofs.Tests.{or-right, true-not, not-true, false-not}
 use Rattle.base.proofs.AnswerLaws.{cond-yes, cond-no}
@@ -163,14 +163,14 @@ flags id time dnaSize sizes nSection lengths =
 -- ---- The writer's numbers
 
 -- One step.
-step-valid : (before end : ℕ) → lengthInvalid (end - before) ≡ false
+pub step-valid : (before end : ℕ) → lengthInvalid (end - before) ≡ false
     → (before < end) × (end ≤ before + 100_000)
 unfolding lengthInvalid
-step-valid before end e =
-    let both = or-neither (eqb (end - before) 0) _ e in
-    let some = eqb-false (end - before) 0 (both .0) in
-    let few = ltb-false 100_000 (end - before) (both .1) in
-    (by-order before end (λ h. h) (λ h. absurd (some (omega arith))), omega arith)
+step-valid before end right =
+    let both = or-neither (eqb (end - before) 0) _ right in
+    let some : end - before ≡ 0 → ⊥ = eqb-false (end - before) 0 (both .0) in
+    let short : end - before ≤ 100_000 = ltb-false 100_000 (end - before) (both .1) in
+    (omega arith, omega arith)
 
 valid-step : (before end : ℕ) → before < end → end ≤ before + 100_000
     → lengthInvalid (end - before) ≡ false
