@@ -22,7 +22,7 @@ use lengths::blocks::lengths_fault;
 use reads::Walked;
 use reads::first_read;
 use reads::walk;
-use records::letters::pair_table;
+use record_letters::letters::pair_table;
 use reference::reference_size_wrong;
 use reference::word_table;
 ghost use mathlib.Core.Path.{_≡_};

@@ -26,10 +26,10 @@ use Rattle.lengths.specs.declared.LengthStep.{LengthStep}
 use Rattle.lengths.specs.declared.LengthStep.the-variants as lengths
 use Rattle.lengths.proofs.StepLaws.{step-ranged}
 use Rattle.records.specs.Decoded.{layoutOf}
-use Rattle.records.specs.Laid.{fieldsIn, storedIn, contextIn}
-use Rattle.records.specs.Printed.{Printable}
-use Rattle.records.proofs.DecodedLaid.{decoded-printable}
-use Rattle.records.proofs.LaidLaws.{letters-laid, differences-laid}
+use Rattle.record_letters.specs.Laid.{fieldsIn, storedIn, contextIn}
+use Rattle.record_letters.specs.Printed.{Printable}
+use Rattle.record_letters.proofs.DecodedLaid.{decoded-printable}
+use Rattle.record_letters.proofs.LaidLaws.{letters-laid, differences-laid}
 use Rattle.reads.specs.declared.Read.{Read}
 use Rattle.reads.specs.declared.ReadCursor.{ReadCursor}
 use Rattle.reads.specs.declared.ReadStep.the-variants as steps

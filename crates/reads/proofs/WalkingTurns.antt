@@ -13,7 +13,7 @@ use Rattle.dna.specs.Counts.{plus}
 use Rattle.dna.specs.Walk.{refusedAt}
 use Rattle.dna.specs.declared.Counts.{Counts}
 use Rattle.format.specs.Answered.{countedOf}
-use Rattle.records.specs.Printed.{Printable}
+use Rattle.record_letters.specs.Printed.{Printable}
 use Rattle.reads.specs.declared.Read.{Read}
 use Rattle.reads.specs.declared.ReadCursor.{ReadCursor}
 use Rattle.reads.specs.declared.Walked.the-variants as walks

@@ -14,8 +14,8 @@ use Rattle.dna.specs.Walk.{Walk}
 use Rattle.dna.specs.declared.Counts.{Counts}
 use Rattle.dna.specs.declared.Record.the-variants as kinds
 use Rattle.reference.specs.Tables.{wordTable}
-use Rattle.records.specs.Laid.{storedIn, contextIn}
-use Rattle.records.specs.Printed.{pairTable}
+use Rattle.record_letters.specs.Laid.{storedIn, contextIn}
+use Rattle.record_letters.specs.Printed.{pairTable}
 use Rattle.reads.specs.declared.Read.{Read}
 use Rattle.reads.specs.declared.Walked.{Walked}
 use Rattle.reads.specs.declared.Walked.the-variants as walks

@@ -2,15 +2,15 @@
 // to. Differences are counted while the letters are written; else only where they are asked for.
 use crate::Read;
 use dna::Counts;
-use records::counts::differences;
-use records::letters::put_read;
+use record_letters::counts::differences;
+use record_letters::letters::put_read;
 ghost use mathlib.Core.Path.{_≡_};
 ghost use mathlib.Core.Bool.{true, cond, _||_};
 ghost use mathlib.Core.List.{[], _∷_};
 ghost use Prim.Native.Nat.{_+_};
 ghost use lib.ListN.{length};
 ghost use Rattle.base.specs.Paste.{pasted};
-ghost use Rattle.records.specs.Printed.{Printable};
+ghost use Rattle.record_letters.specs.Printed.{Printable};
 ghost use Rattle.reads.specs.Walked.{
   TablesMade,
   RoomAt,

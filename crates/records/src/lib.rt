@@ -40,9 +40,7 @@ ghost use Rattle.records.specs.Decoded.{
   localFaults,
 };
 
-pub mod counts;
 pub mod fields;
-pub mod letters;
 pub mod nlist;
 
 // A read's bit of each of the four group bytes; `step` is pos_t.

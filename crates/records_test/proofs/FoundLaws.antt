@@ -14,8 +14,8 @@ use Rattle.records.specs.declared.Layout.{Layout}
 use Rattle.records.specs.declared.Decoded.{Decoded}
 use Rattle.records.specs.declared.Decoded.the-variants as answers
 use Rattle.records.specs.Decoded.{decodedFrom, decodedAt}
-use Rattle.records.specs.Printed.{Printable}
-use Rattle.records.proofs.DecodedLaid.{decoded-printable}
+use Rattle.record_letters.specs.Printed.{Printable}
+use Rattle.record_letters.proofs.DecodedLaid.{decoded-printable}
 
 -- A record that is found can be printed.
 abbrev AnswerPrintable : (list reference : List ℕ) (readLength : ℕ) (answer : Decoded) → Type 0

@@ -10,16 +10,16 @@ use dna::Strand;
 use integers::wide16;
 use integers::wide32;
 use integers::wide64;
+use record_letters::counts::differences;
+use record_letters::letters::pair_table;
+use record_letters::letters::put_read;
 use records::Bits;
 use records::Decoded;
 use records::Layout;
-use records::counts::differences;
 use records::decode_record;
-use records::letters::pair_table;
-use records::letters::put_read;
 use reference::word_table;
 ghost use Prim.Native.Nat.{_≤_};
-ghost use Rattle.records.specs.Printed.{Printable};
+ghost use Rattle.record_letters.specs.Printed.{Printable};
 
 // No read of a case is longer.
 const READ_CAPACITY: usize = 16;

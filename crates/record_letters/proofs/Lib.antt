@@ -1,0 +1,17 @@
+pub mod AlikeLaws
+pub mod CountLaws
+pub mod FieldsLaid
+pub mod LaidLaws
+pub mod UnderNLaws
+pub mod Ranges
+pub mod DecodedLaid
+pub mod PairLaws
+pub mod TurnLaws
+pub mod PlaceLaws
+pub mod OverlayLaws
+pub mod LetterLaws
+pub mod PrintedLaws
+pub mod PlainLaws
+pub mod PlainKinds
+pub mod NInsideLaws
+pub mod PrintableLaws
