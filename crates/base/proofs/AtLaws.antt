@@ -97,3 +97,14 @@ at-part {list} {i} part a =
     ext-getD 0 _ part (length-take-le (length part) (drop i list) room) (λ k h.
     let low : k < length part = omega (arith, length-take-le (length part) (drop i list) room) in
     getD-take (length part) (drop i list) k 0 low ∙ getD-drop i list k 0 ∙ a .same k low)
+
+-- What is cut out of a list stands there.
+pub at-cut : (list : List ℕ) (i n : ℕ) → i + n ≤ length list → At list i (take n (drop i list))
+at-cut list i n h =
+    let size : length (take n (drop i list)) ≡ n = length-take-le n (drop i list) (omega (arith, length-drop i list)) in
+    record {
+      fits = omega arith;
+      same = λ k l.
+          let small : k < n = omega arith in
+          sym (getD-take n (drop i list) k 0 small ∙ getD-drop i list k 0);
+    }

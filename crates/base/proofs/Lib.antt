@@ -18,3 +18,10 @@ pub mod ShiftLaws
 pub mod GroupSizeLaws
 pub mod PastingLaws
 pub mod StepsLaws
+pub mod AllLaws
+pub mod CutLaws
+pub mod IndexLaws
+pub mod FlatMapLaws
+pub mod DigitLaws
+pub mod AnyLaws
+pub mod AtPasteLaws

@@ -38,3 +38,9 @@ nonNegative-fits (negsuc n) h = omega arith
 pub not-below : (z : ℤ) → ltZ z (pos 0) ≡ false → T (nonNeg z)
 not-below (pos n) e = tt
 not-below (negsuc n) e = absurd-test e
+
+-- The same of 64 bits.
+pub nonNegative-fits64 : (z : ℤ) → mag z < 2 ^ 63 → nonNegative z < 2 ^ 63
+unfolding nonNegative
+nonNegative-fits64 (pos n) h = h
+nonNegative-fits64 (negsuc n) h = omega arith

@@ -6,3 +6,4 @@ pub mod Faults
 pub mod Place
 pub mod Answer
 pub mod Paste
+pub mod Decimal

@@ -1,7 +1,7 @@
 -- Lists by index, and the few list functions that the definitions above share.
 use Prim.Native.Nat.{ℕ, zero, suc, _+_, _-_, _<_}
 use mathlib.Core.Path.{_≡_}
-use mathlib.Core.Bool.{Bool, true, false, cond, _||_}
+use mathlib.Core.Bool.{Bool, true, false, cond, not, _||_}
 use mathlib.Core.List.{List, [], _∷_, _++_}
 use lib.ListN.{length, getD, take, drop}
 use lib.Dec.{ltb, eqb}
@@ -14,6 +14,11 @@ build (suc n) f = f zero ∷ build n (λ k. f (suc k))
 -- The count elements of a list from index `from` on.
 abbrev pub part {ℓ} : {A : Type ℓ} (list : List A) (from count : ℕ) → List A
 part list from count = take count (drop from list)
+
+-- Part i of a list that is cut at some ends: from the end before it, or 0, to its own.
+abbrev pub partEnding {ℓ} : {A : Type ℓ} (list : List A) (ends : List ℕ) (i : ℕ) → List A
+partEnding list ends i =
+    part list (getD (0 ∷ ends) i 0) (getD ends i 0 - getD (0 ∷ ends) i 0)
 
 -- Whether a list ends before index `end`.
 abbrev pub endsBefore : (list : List ℕ) (end : ℕ) → Bool
@@ -62,6 +67,12 @@ placesFrom start (step ∷ steps) = (start + step) ∷ placesFrom (start + step)
 unfoldable pub stepsFrom : (start : ℕ) (places : List ℕ) → List ℕ
 stepsFrom start [] = []
 stepsFrom start (place ∷ places) = (place - start) ∷ stepsFrom place places
+
+-- Whether ends are wrong: a step between them, the first from 0, is wrong, or the last end is not
+-- `count` (0 where there is none).
+abbrev pub endsWrongFor : (stepWrong : ℕ → Bool) (ends : List ℕ) (count : ℕ) → Bool
+endsWrongFor stepWrong ends count =
+    any stepWrong (stepsFrom 0 ends) || not (eqb (getD (0 ∷ ends) (length ends) 0) count)
 
 -- A claim that holds of every element.
 abbrev pub All {ℓ} : {A : Type ℓ} (claim : A → Type 0) (list : List A) → Type 0

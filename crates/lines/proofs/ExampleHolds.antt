@@ -17,7 +17,8 @@ use Rattle.format.specs.Joined.{blockReads, blockCounts}
 use Rattle.format.specs.BlockAnswer.{headerRefused, idAnswer, lengthsAnswer, dnaTrailing}
 use Rattle.format.specs.BlockAnswer.{blockAnswer, capacityTooSmall, decodeAnswer}
 use Rattle.format.specs.Examples.{fifthRow, blockWith, listingBlock}
-use Rattle.lines.specs.Text.{text, digitsOf, decimal}
+use Rattle.base.specs.Decimal.{digitsOf, decimal}
+use Rattle.lines.specs.Text.{text}
 use Rattle.lines.specs.Lines.{labelled, blockLine, readLine, readLines, blockText, endLine}
 use Rattle.lines.specs.Lines.{refusedLine}
 use Rattle.lines.specs.Listing.{basesOf, referenceOf, referenceRefused, windowOf}

@@ -11,7 +11,7 @@ use lib.Pow.{pow-add}
 use borrow.Author.Tests.{lt-ltb, le-ltb}
 use Rattle.io.specs.Digits.{digits, Fewest}
 use Rattle.base.proofs.ListLaws.{by-order, by-test}
-use Rattle.lines.specs.Text.{digitsOf, decimal}
+use Rattle.base.specs.Decimal.{digitsOf, decimal}
 
 pow-positive : (count : ℕ) → 1 ≤ 10 ^ count
 pow-positive zero = omega (arith, pow-zero 10)

@@ -4,7 +4,8 @@ use Prim.Native.Nat.{ℕ}
 use Prim.Native.String.{String}
 use mathlib.Core.List.{List, [], _∷_, _++_}
 use Rattle.dna.specs.Counts.{Counted}
-use Rattle.lines.specs.Text.{text, decimal}
+use Rattle.base.specs.Decimal.{decimal}
+use Rattle.lines.specs.Text.{text}
 
 -- No line but a read's is longer: a block line with five numbers of 20 digits.
 abbrev pub lineRoom : ℕ

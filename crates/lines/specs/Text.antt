@@ -1,23 +1,10 @@
--- Text in ASCII, and numbers in decimal digits.
-use Prim.Native.Nat.{ℕ, zero, suc, _+_, _/_, _%_}
+-- Text in ASCII.
+use Prim.Native.Nat.{ℕ}
 use Prim.Native.Char.{code}
 use Prim.Native.String.{String, [] as ended, _∷_ as _then_}
-use mathlib.Core.Bool.{cond}
-use mathlib.Core.List.{List, [], _∷_, _++_}
-use lib.Dec.{ltb}
+use mathlib.Core.List.{List, [], _∷_}
 
 -- The bytes of a text.
 unfoldable pub text : (characters : String) → List ℕ
 text ended = []
 text (character then characters) = code character ∷ text characters
-
--- The last `most` decimal digits of a number: those of a tenth of it where it is 10 or more, then
--- its own last digit.
-unfoldable pub digitsOf : (most number : ℕ) → List ℕ
-digitsOf zero number = []
-digitsOf (suc most) number =
-    cond (ltb number 10) [] (digitsOf most (number / 10)) ++ ((48 + number % 10) ∷ [])
-
--- The decimal digits of a number of 64 bits, which has 20 at most; there are no zeros in front.
-unfoldable pub decimal : (number : ℕ) → List ℕ
-decimal number = digitsOf 20 number

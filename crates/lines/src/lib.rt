@@ -10,7 +10,7 @@ ghost use mathlib.Core.List.{_++_};
 ghost use lib.ListN.{length};
 ghost use Rattle.base.specs.Paste.{pasted};
 ghost use Rattle.format.specs.Answered.{countedOf};
-ghost use Rattle.lines.specs.Text.{decimal};
+ghost use Rattle.base.specs.Decimal.{decimal};
 ghost use Rattle.lines.specs.Lines.{
   lineRoom,
   blockLine,

@@ -8,7 +8,7 @@ use borrow.Author.Needs.{needs}
 use Rattle.base.specs.Paste.{pasted}
 use Rattle.io.specs.Digits.{digits}
 use Rattle.lines.proofs.TextLaws.{few-digits, length-digits, decimal-shown}
-use Rattle.lines.specs.Text.{decimal}
+use Rattle.base.specs.Decimal.{decimal}
 use Rattle.lines.proofs.put_decimal.Statement.{statement}
 use Rattle.lines.proofs.put_decimal.Tie as tie
 

@@ -3,7 +3,7 @@ use native.Mathlib.Omega.{arith}
 use lib.ListN.{length}
 use borrow.Author.Needs.{needs}
 use Rattle.lines.proofs.PutLaws.{put-next}
-use Rattle.lines.specs.Text.{decimal}
+use Rattle.base.specs.Decimal.{decimal}
 use Rattle.lines.proofs.put_labelled.Statement.{statement}
 use Rattle.lines.proofs.put_labelled.Tie as tie
 

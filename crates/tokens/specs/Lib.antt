@@ -1,0 +1,10 @@
+pub mod Split
+pub mod Columns
+pub mod Names
+pub mod ColumnsAt
+pub mod NamesAt
+pub mod WrittenNames
+pub mod RuleMeaning
+pub mod LentNames
+pub mod Examples
+pub mod ExamplesRefused
