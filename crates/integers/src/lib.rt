@@ -1,10 +1,10 @@
-// Numbers at a place of a slice, the lowest byte first, and the signed meaning of 32 bits.
+// Numbers at a place of a slice, the lowest byte first, and the signed meaning of 32 and 64 bits.
 // The contracts cite specs/Numbers.antt and specs/Paste.antt of base; each `requires` says that the
 // bytes are there.
 ghost use mathlib.Core.Path.{_≡_};
 ghost use Prim.Native.Nat.{_+_, _≤_, _<_, _^_};
 ghost use lib.ListN.{length};
-ghost use Rattle.base.specs.Numbers.{le, leBytes, int32, nonNegative};
+ghost use Rattle.base.specs.Numbers.{le, leBytes, int32, signed, nonNegative};
 ghost use Rattle.base.specs.Paste.{pasted};
 
 // ---- Widening: the same number in a wider type, with the bound of the narrow one.
@@ -62,6 +62,16 @@ pub fn non_negative(number: i32) -> u32
     number as u32
 }
 
+// The same of 64 bits.
+pub fn non_negative64(number: i64) -> u64
+    ensures { λ r. ⌜ (r ≡ nonNegative number) × (r < 2 ^ 63) ⌝ }
+{
+    if number < 0 {
+        return 0;
+    }
+    number as u64
+}
+
 // ---- Reading
 
 // The number of two bytes at `at`.
@@ -106,6 +116,25 @@ pub fn int32_of(x: u32) -> i32
         x as i32
     } else {
         !((0xffff_ffff - x) as i32)
+    }
+}
+
+// The signed number of eight bytes at `at`.
+pub fn i64_at(s: &[u8], at: usize) -> i64
+    requires { ⌜ at + 8 ≤ length (now s) ⌝ }
+    ensures { λ r. ⌜ r ≡ signed 64 (le 8 (now (s .entry)) at) ⌝ }
+{
+    int64_of(u64_at(s, at))
+}
+
+// The signed number whose 64 bits are those of x.
+pub fn int64_of(x: u64) -> i64
+    ensures { λ r. ⌜ r ≡ signed 64 x ⌝ }
+{
+    if x < 0x8000_0000_0000_0000 {
+        x as i64
+    } else {
+        !((0xffff_ffff_ffff_ffff - x) as i64)
     }
 }
 

@@ -1,0 +1,11 @@
+pub mod StringLaws
+pub mod RisingLaws
+pub mod MovedLaws
+pub mod RowLaws
+pub mod TableLaws
+pub mod ArrayLaws
+pub mod RowsLaws
+pub mod JudgeLaws
+pub mod CopyLaws
+pub mod PutLaws
+pub mod PutRowsLaws
