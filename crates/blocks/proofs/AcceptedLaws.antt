@@ -21,10 +21,12 @@ use Rattle.format.specs.Sections.{dnaNumber, sizeNumber, nNumber, sectionOf}
 use Rattle.format.specs.Lengths.{dnaSizeWrong, nSectionWrong, lengthFaults}
 use Rattle.format.specs.WellFormed.{BlockDivision}
 use Rattle.format.specs.Joined.{blockReads, blockCounts}
-use Rattle.format.specs.BlockAnswer.{headerRefused, lengthsAnswer, blockAnswer}
+use Rattle.format.specs.BlockAnswer.{headerRefused, lengthsAnswer, dnaAnswer}
 use Rattle.format.specs.declared.BlockOutcome.the-variants as outcomes
 use Rattle.format.proofs.BlockLaws.{section-bytes}
 use Rattle.lengths.specs.Given.{lengthsFound, lengthsNumber}
+use Rattle.format.specs.Outcome.{acceptedBlock}
+use Rattle.format.specs.Answered.{outcomeOfBlock}
 use Rattle.reads.specs.Walked.{countsWith, readsCounts, countsOf, Writable}
 use Rattle.reads.specs.Walked as walked
 use Rattle.reads.proofs.ReadLaws.{AllReads, reads-count, reads-found}
@@ -34,28 +36,38 @@ use Rattle.blocks.specs.Judged.{blockSource, isFixed, eachLength, blockW
 use Rattle.blocks.specs.Judged.{answerOf, judged}
 
 -- What was accepted.
-pub record Judged (bases : ℕ) (reference input : List ℕ) (bytes : ℕ) (counts : Counts)
-    : Type 0 where
+pub record Judged (differences : Bool) (bases : ℕ) (reference input : List ℕ) (bytes : ℕ)
+    (counts : Counts) : Type 0 where
   pub divided : BlockDivision
-  pub answer : blockAnswer bases reference input ≡ found divided bytes
-  pub counts-are : counts ≡ countsOf (countsWith false (blockCounts reference bases divided))
+  pub answer : dnaAnswer bases reference input ≡ found divided bytes
+  pub counts-are : counts ≡ countsOf (countsWith differences (blockCounts reference bases divided))
 
-judged-accepted : (bases : ℕ) (reference input : List ℕ) (bytes : ℕ) (counts : Counts)
-    (answer : Walk BlockDivision) → blockAnswer bases reference input ≡ answer
-    → outcomes.Accepted bytes counts ≡ answerOf false reference bases answer
-    → Judged bases reference input bytes counts
+judged-accepted : (differences : Bool) (bases : ℕ) (reference input : List ℕ) (bytes : ℕ)
+    (counts : Counts) (answer : Walk BlockDivision) → dnaAnswer bases reference input ≡ answer
+    → outcomes.Accepted bytes counts ≡ answerOf differences reference bases answer
+    → Judged differences bases reference input bytes counts
 unfolding answerOf
-judged-accepted bases reference input bytes counts (found divided next) is e =
+judged-accepted differences bases reference input bytes counts (found divided next) is e =
     let n : next ≡ bytes = cc in
     record { divided = divided; answer = is ∙ ap (found divided) n; counts-are = cc }
-judged-accepted bases reference input bytes counts (refused why) is e =
+judged-accepted differences bases reference input bytes counts (refused why) is e =
     let z : _≡_ {A = ℕ} 0 1 = cc in absurd (omega arith)
 
-pub block-judged : (bases : ℕ) (reference input : List ℕ) (bytes : ℕ) (counts : Counts)
-    → outcomes.Accepted bytes counts ≡ judged false bases reference input
-    → Judged bases reference input bytes counts
-block-judged bases reference input bytes counts e =
-    judged-accepted bases reference input bytes counts (blockAnswer bases reference input) refl e
+pub block-judged : (differences : Bool) (bases : ℕ) (reference input : List ℕ) (bytes : ℕ)
+    (counts : Counts) → outcomes.Accepted bytes counts ≡ judged differences bases reference input
+    → Judged differences bases reference input bytes counts
+block-judged differences bases reference input bytes counts e =
+    judged-accepted differences bases reference input bytes counts
+    (dnaAnswer bases reference input) refl e
+
+-- With differences, its outcome has all counts.
+pub judged-outcome : (bases : ℕ) (reference input : List ℕ) (bytes : ℕ) (counts : Counts)
+    (judged′ : Judged true bases reference input bytes counts)
+    → outcomeOfBlock (outcomes.Accepted bytes counts)
+    ≡ acceptedBlock bytes (blockCounts reference bases (judged′ .divided))
+unfolding outcomeOfBlock countsWith
+judged-outcome bases reference input bytes counts judged′ =
+    ap (λ (c : Counts). outcomeOfBlock (outcomes.Accepted bytes c)) (judged′ .counts-are)
 
 -- ---- An accepted block, taken apart
 
@@ -72,9 +84,9 @@ pub record BlockParts (bases : ℕ) (reference input : List ℕ) (divided : Bloc
       ≡ found (divided .division) end
 
 pub block-parts : (bases : ℕ) (reference input : List ℕ) (divided : BlockDivision) (bytes : ℕ)
-    → blockAnswer bases reference input ≡ found divided bytes
+    → dnaAnswer bases reference input ≡ found divided bytes
     → BlockParts bases reference input divided
-unfolding blockAnswer headerRefused lengthFaults dnaSizeWrong any lengthsFound lengthsNumber
+unfolding dnaAnswer headerRefused lengthFaults dnaSizeWrong any lengthsFound lengthsNumber
 block-parts bases reference input divided bytes e =
     let first = checked-found (ofRead 0) _ _ e in
     let header = or-neither (referenceSizeWrong bases reference) _ (first .0) in

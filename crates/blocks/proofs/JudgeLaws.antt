@@ -23,11 +23,11 @@ use Rattle.format.specs.HeaderFaults.{headerFaults}
 use Rattle.format.specs.Lengths.{dnaSizeWrong, nSectionWrong, lengthFaults}
 use Rattle.format.specs.WellFormed.{BlockDivision}
 use Rattle.format.specs.Joined.{blockCounts}
-use Rattle.format.specs.BlockAnswer.{headerRefused, lengthsAnswer, dnaTrailing, blockAnswer}
+use Rattle.format.specs.BlockAnswer.{headerRefused, lengthsAnswer, dnaTrailing, dnaAnswer}
 use Rattle.format.specs.BlockAnswer.{blockOutcome, validatedBlock}
 use Rattle.format.specs.Answered.{outcomeOfBlock}
 use Rattle.format.specs.declared.BlockOutcome.the-variants as outcomes
-use Rattle.format.proofs.AnswerNumbers.{afterLengths, past-reference, reference-refused}
+use Rattle.format.proofs.AnswerNumbers.{afterLengths, past-reference, dna-reference}
 use Rattle.format.proofs.BlockLaws.{section-bytes}
 use Rattle.lengths.specs.Given.{lengthsFound, lengthsNumber}
 use Rattle.lengths.proofs.GivenLaws.{LengthsKnown, known-zero}
@@ -38,19 +38,6 @@ use Rattle.reads.specs.declared.Walked.the-variants as walks
 use Rattle.blocks.specs.Judged.{blockSource, isFixed, eachLength, blockWalk, answerOf, judged}
 use Rattle.blocks.proofs.WalkedLaws.{SectionWalked, walked-refused, walked-found}
 
--- The outcome of an answer with its differences is the paper's.
-outcome-is : (reference : List ℕ) (bases : ℕ) (answer : Walk BlockDivision)
-    → outcomeOfBlock (answerOf true reference bases answer) ≡ blockOutcome reference bases answer
-unfolding outcomeOfBlock answerOf blockOutcome countsWith
-outcome-is reference bases (found divided next) = refl
-outcome-is reference bases (refused why) = refl
-
-pub judged-validated : (bases : ℕ) (reference input : List ℕ)
-    → outcomeOfBlock (judged true bases reference input) ≡ validatedBlock bases reference input
-unfolding validatedBlock
-judged-validated bases reference input =
-    outcome-is reference bases (blockAnswer bases reference input)
-
 module _ (differences : Bool) (bases : ℕ) (reference input : List ℕ) where
   -- 1.
   pub judge-reference : referenceSizeWrong bases reference ≡ true
@@ -59,7 +46,7 @@ module _ (differences : Bool) (bases : ℕ) (reference input : List ℕ) where
   judge-reference wrong =
       sym
       (ap (answerOf differences reference bases)
-      (reference-refused bases reference input wrong))
+      (dna-reference bases reference input wrong))
 
   module _ (fits : ReferenceFits bases reference) where
     -- 2 to 8.
@@ -74,7 +61,7 @@ module _ (differences : Bool) (bases : ℕ) (reference input : List ℕ) where
         ∙ ap (λ (n : ℕ). outcomes.Refused n 0) (sym e))
 
     module _ (accepted : headerRefused input ≡ false) where
-      header-passed : blockAnswer bases reference input
+      header-passed : dnaAnswer bases reference input
           ≡ andThen (refusedAs (λ n. ofRead 0 9) (lengthsAnswer input))
           (λ lengths end. afterLengths bases input lengths)
       unfolding headerRefused
@@ -116,7 +103,7 @@ pub record LengthsRight (bases : ℕ) (reference input : List ℕ) : Type 0 wher
   pub after : ℕ
   pub are : lengthsAnswer input ≡ found lengths after
   pub size : dnaSizeWrong input lengths ≡ false
-  pub answer : blockAnswer bases reference input ≡ afterLengths bases input lengths
+  pub answer : dnaAnswer bases reference input ≡ afterLengths bases input lengths
 
 pub lengths-right : (bases : ℕ) (reference input : List ℕ) → ReferenceFits bases reference
     → headerRefused input ≡ false
@@ -149,12 +136,12 @@ module _ (differences : Bool) (bases : ℕ) (reference input : List ℕ)
 
   module _ (bytes : AllBytes input) (counted : nSectionWrong input ≡ false) where
     -- The rest is the walk over the reads.
-    reads-passed : blockAnswer bases reference input
+    reads-passed : dnaAnswer bases reference input
         ≡ andThen
         (sectionWalk bases (right .lengths) (sectionOf input nNumber) (sectionOf input dnaNumber))
         (λ division next.
         checked (refusedAt 0) (fault 21 (dnaTrailing input next) ∷ [])
-        (found (record { lengths = right .lengths; division = division })
+        (found (record { lengths = right .lengths; division = division; names = [] })
         (blockLength (headerOf input))))
     unfolding lengthFaults checked
     reads-passed = right .answer ∙ cond-no _ (right .size) (cond-no _ counted refl)
@@ -203,8 +190,8 @@ module _ (differences : Bool) (bases : ℕ) (reference input : List ℕ)
           (omega (arith, section-walked .end-is))) refl)))
 
       pub block-accepted : length (sectionOf input dnaNumber) ≤ cursor .at
-          → blockAnswer bases reference input
-          ≡ found (record { lengths = right .lengths; division = section-walked .division })
+          → dnaAnswer bases reference input
+          ≡ found (record { lengths = right .lengths; division = section-walked .division; names = [] })
           (blockLength (headerOf input))
       unfolding checked dnaTrailing
       block-accepted none =

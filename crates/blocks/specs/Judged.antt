@@ -1,5 +1,6 @@
--- What judging a block answers, in the code's terms. Where differences are not asked for, they are
--- counted as 0: decoding judges first, and counts them as it writes.
+-- What judging a block with 1 to 21 answers, in the code's terms; its names are judged after it.
+-- Where differences are not asked for, they are counted as 0: decoding judges first, and counts
+-- them as it writes.
 use mathlib.Core.Path.{_≡_}
 use Prim.Native.Nat.{ℕ}
 use mathlib.Core.Bool.{Bool, false}
@@ -13,7 +14,7 @@ use Rattle.format.specs.Sections.{dnaNumber, sizeNumber, nNumber, sectionOf}
 use Rattle.format.specs.Lengths.{nSectionWrong}
 use Rattle.format.specs.WellFormed.{BlockDivision}
 use Rattle.format.specs.Joined.{blockCounts}
-use Rattle.format.specs.BlockAnswer.{headerRefused, lengthsAnswer, blockAnswer}
+use Rattle.format.specs.BlockAnswer.{headerRefused, lengthsAnswer, dnaAnswer}
 use Rattle.format.specs.declared.BlockOutcome.{BlockOutcome}
 use Rattle.format.specs.declared.BlockOutcome.the-variants as outcomes
 use Rattle.lengths.specs.Given.{lengthsFound, lengthsNumber}
@@ -62,4 +63,4 @@ answerOf differences reference bases (refused why) = outcomes.Refused (why .numb
 -- Judging with 1 to 21.
 abbrev pub judged : (differences : Bool) (bases : ℕ) (reference input : List ℕ) → BlockOutcome
 judged differences bases reference input =
-    answerOf differences reference bases (blockAnswer bases reference input)
+    answerOf differences reference bases (dnaAnswer bases reference input)

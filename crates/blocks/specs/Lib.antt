@@ -1,2 +1,3 @@
 pub mod Judged
+pub mod Named
 pub mod Decoding

@@ -83,6 +83,7 @@ pub fn write_block(reads: Reads, dna: &[u8], sizes: &[u8], ns: &[u8], out: &mut 
 fn header_fields(reads: Reads, dna: u32, sizes: u32, ns: u32) -> VaryingFields {
     VaryingFields {
         l_dna: dna,
+        l_names: 0,
         l_size: sizes,
         l_n: ns,
         flags: reads.flags,

@@ -12,6 +12,8 @@ use crate::lines::put_word;
 use crate::outcomes::put_block_outcome;
 use crate::parts::bytes_from;
 use crate::parts::first_bytes;
+use crate::show::NAME_ENDS_LENT;
+use crate::show::NAMES_LENT;
 use crate::show::UNTOUCHED_END;
 use crate::show::UNTOUCHED_LETTER;
 use integers::size32;
@@ -77,9 +79,19 @@ pub fn run_block(label: &[u8], input: &[u8], at: usize) {
 // The same with the reference and the buffer of letters given.
 fn decode_into(label: &[u8], reference: &[u8], input: &[u8], letters: &mut [u8], at: usize) {
     let mut ends = [UNTOUCHED_END; ENDS_LENT];
+    let mut names = [UNTOUCHED_LETTER; NAMES_LENT];
+    let mut name_ends = [UNTOUCHED_END; NAME_ENDS_LENT];
     put_text(label);
     put_text(b": decode");
-    put_block_outcome(ora::decode(REFERENCE_BASES, reference, input, letters, &mut ends));
+    put_block_outcome(ora::decode(
+        REFERENCE_BASES,
+        reference,
+        input,
+        letters,
+        &mut ends,
+        &mut names,
+        &mut name_ends,
+    ));
     put_text(b", validate_block");
     put_block_outcome(ora::validate_block(REFERENCE_BASES, reference, input));
     put_text(b",");

@@ -12,6 +12,11 @@ const MAX_LETTERS: usize = 96;
 
 const MAX_ENDS: usize = 24;
 
+// The name bytes and name ends that every case lends.
+pub const NAMES_LENT: usize = 4;
+
+pub const NAME_ENDS_LENT: usize = 2;
+
 // What every lent letter and every lent end holds before the call.
 pub const UNTOUCHED_LETTER: u8 = b'.';
 
@@ -77,13 +82,24 @@ fn show_lent(
     letters: &mut [u8],
     ends: &mut [u32],
 ) {
+    let mut names = [UNTOUCHED_LETTER; NAMES_LENT];
+    let mut name_ends = [UNTOUCHED_END; NAME_ENDS_LENT];
     put_text(label);
     put_text(b": decode");
-    put_block_outcome(ora::decode(bases, reference, input, letters, ends));
+    put_block_outcome(ora::decode(
+        bases,
+        reference,
+        input,
+        letters,
+        ends,
+        &mut names,
+        &mut name_ends,
+    ));
     put_text(b", validate_block");
     put_block_outcome(ora::validate_block(bases, reference, input));
     put_text(b",");
     put_buffers(letters, ends);
+    put_names(&names, &name_ends);
     end_line();
 }
 
@@ -95,6 +111,14 @@ fn put_buffers(letters: &[u8], ends: &[u32]) {
     }
     put_word(letters);
     put_numbers(ends);
+}
+
+// Names are stored in no block, so these stay: nothing is printed then.
+fn put_names(names: &[u8], name_ends: &[u32]) {
+    if letters_untouched(names) && ends_untouched(name_ends) {
+        return;
+    }
+    put_text(b", names touched");
 }
 
 fn letters_untouched(letters: &[u8]) -> bool {

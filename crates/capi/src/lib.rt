@@ -21,9 +21,9 @@ ghost use Rattle.format.specs.BlockAnswer.{
   idAnswer,
   lengthAnswer,
   validatedBlock,
+  buffersOf,
   decoded,
-  decodedLetters,
-  decodedEnds,
+  decodedBuffers,
 };
 ghost use Rattle.format.specs.FileAnswer.{validated};
 ghost use Rattle.format.specs.EncodeAnswer.{lent, encoded, encodedBuffer};
@@ -37,21 +37,24 @@ pub extern "C" fn ora_decode(
     input: &[u8],
     letters: &mut [u8],
     ends: &mut [u32],
+    names: &mut [u8],
+    name_ends: &mut [u32],
     answer: &mut [u64; 16],
 ) -> u64
     ensures { λ r. ⌜ (r ≡ decoded bases (now (reference .entry)) (now (input .entry))
-        (now (letters .entry)) (now (ends .entry)) .number)
+        (buffersOf (now (letters .entry)) (now (ends .entry)) (now (names .entry))
+        (now («name_ends» .entry))) .number)
         × (now (answer .exit)
         ≡ slots (decoded bases (now (reference .entry)) (now (input .entry))
-        (now (letters .entry)) (now (ends .entry))))
-        × (now (letters .exit)
-        ≡ decodedLetters bases (now (reference .entry)) (now (input .entry))
-        (now (letters .entry)) (now (ends .entry)))
-        × (now (ends .exit)
-        ≡ decodedEnds bases (now (reference .entry)) (now (input .entry))
-        (now (letters .entry)) (now (ends .entry))) ⌝ }
+        (buffersOf (now (letters .entry)) (now (ends .entry)) (now (names .entry))
+        (now («name_ends» .entry)))))
+        × (buffersOf (now (letters .exit)) (now (ends .exit)) (now (names .exit))
+        (now («name_ends» .exit))
+        ≡ decodedBuffers bases (now (reference .entry)) (now (input .entry))
+        (buffersOf (now (letters .entry)) (now (ends .entry)) (now (names .entry))
+        (now («name_ends» .entry)))) ⌝ }
 {
-    let outcome = ora::decode(bases, reference, input, letters, ends);
+    let outcome = ora::decode(bases, reference, input, letters, ends, names, name_ends);
     *answer = block_slots(outcome);
     block_number(outcome)
 }
@@ -98,6 +101,8 @@ pub extern "C" fn ora_encode(
     reference: &[u8],
     letters: &[u8],
     ends: &[u32],
+    names: &[u8],
+    name_ends: &[u32],
     positions: &[u32],
     strands: &[u8],
     lefts: &[u8],
@@ -108,18 +113,21 @@ pub extern "C" fn ora_encode(
     answer: &mut [u64; 16],
 ) -> u64
     ensures { λ r. ⌜ (r ≡ encoded bases (now (reference .entry))
-        (lent (now (letters .entry)) (now (ends .entry)) (now (positions .entry))
-        (now (strands .entry)) (now (lefts .entry)) (now (rights .entry)) «b_id» «c_time»)
+        (lent (now (letters .entry)) (now (ends .entry)) (now (names .entry))
+        (now («name_ends» .entry)) (now (positions .entry)) (now (strands .entry))
+        (now (lefts .entry)) (now (rights .entry)) «b_id» «c_time»)
         (now (out .entry)) .number)
         × (now (answer .exit)
         ≡ slots (encoded bases (now (reference .entry))
-        (lent (now (letters .entry)) (now (ends .entry)) (now (positions .entry))
-        (now (strands .entry)) (now (lefts .entry)) (now (rights .entry)) «b_id» «c_time»)
+        (lent (now (letters .entry)) (now (ends .entry)) (now (names .entry))
+        (now («name_ends» .entry)) (now (positions .entry)) (now (strands .entry))
+        (now (lefts .entry)) (now (rights .entry)) «b_id» «c_time»)
         (now (out .entry))))
         × (now (out .exit)
         ≡ encodedBuffer bases (now (reference .entry))
-        (lent (now (letters .entry)) (now (ends .entry)) (now (positions .entry))
-        (now (strands .entry)) (now (lefts .entry)) (now (rights .entry)) «b_id» «c_time»)
+        (lent (now (letters .entry)) (now (ends .entry)) (now (names .entry))
+        (now («name_ends» .entry)) (now (positions .entry)) (now (strands .entry))
+        (now (lefts .entry)) (now (rights .entry)) «b_id» «c_time»)
         (now (out .entry))) ⌝ }
 {
     let outcome = ora::encode(
@@ -127,6 +135,8 @@ pub extern "C" fn ora_encode(
         reference,
         letters,
         ends,
+        names,
+        name_ends,
         positions,
         strands,
         lefts,

@@ -16,11 +16,11 @@ abbrev pub fileHeaderLength : ℕ
 fileHeaderLength = 16
 
 abbrev pub caseHeaderLength : ℕ
-caseHeaderLength = 80
+caseHeaderLength = 104
 
--- The bytes ORACASE1 as a number.
+-- The bytes ORACASE2 as a number.
 abbrev pub fileMagic : ℕ
-fileMagic = 3550335421017838159
+fileMagic = 3622393015055766095
 
 -- ---- The file
 
@@ -54,6 +54,11 @@ caseFields bytes =
       «letters_lent» = le 4 bytes 68;
       «ends_lent» = le 4 bytes 72;
       «block_lent» = le 4 bytes 76;
+      names = le 4 bytes 80;
+      «name_ends» = le 4 bytes 84;
+      «names_stored» = le 4 bytes 88;
+      «names_lent» = le 4 bytes 92;
+      «name_ends_lent» = le 4 bytes 96;
     }
 
 -- Where the reference starts: after the label.
@@ -64,15 +69,22 @@ referenceStart header = caseHeaderLength + header .label
 abbrev pub inputStart : (header : CaseHeader) → ℕ
 inputStart header = referenceStart header + header .reference
 
--- Where what is given to the writer starts, part after part; ends and positions take 4 bytes each.
+-- Where what is given to the writer starts, part after part; ends, name ends and
+-- positions take 4 bytes each.
 abbrev pub lettersStart : (header : CaseHeader) → ℕ
 lettersStart header = inputStart header + header .input
 
 abbrev pub endsStart : (header : CaseHeader) → ℕ
 endsStart header = lettersStart header + header .letters
 
+abbrev pub namesStart : (header : CaseHeader) → ℕ
+namesStart header = endsStart header + 4 * header .stored
+
+abbrev pub nameEndsStart : (header : CaseHeader) → ℕ
+nameEndsStart header = namesStart header + header .names
+
 abbrev pub positionsStart : (header : CaseHeader) → ℕ
-positionsStart header = endsStart header + 4 * header .stored
+positionsStart header = nameEndsStart header + 4 * header .«names_stored»
 
 abbrev pub strandsStart : (header : CaseHeader) → ℕ
 strandsStart header = positionsStart header + 4 * header .positions

@@ -1,4 +1,4 @@
-// A case file: 16 bytes, then the cases, each a header of 80 bytes and a payload.
+// A case file: 16 bytes, then the cases, each a header of 104 bytes and a payload.
 use integers::size8;
 use integers::size32;
 use integers::u32_at;
@@ -17,6 +17,8 @@ ghost use Rattle.cases.specs.CaseFile.{
   inputStart,
   lettersStart,
   endsStart,
+  namesStart,
+  nameEndsStart,
   positionsStart,
   strandsStart,
   leftsStart,
@@ -26,10 +28,10 @@ ghost use Rattle.cases.specs.CaseFile.{
 // Before the cases: the magic, the number of cases, zeros.
 pub const FILE_HEADER_LENGTH: usize = 16;
 
-pub const CASE_HEADER_LENGTH: usize = 80;
+pub const CASE_HEADER_LENGTH: usize = 104;
 
-// The bytes ORACASE1.
-const FILE_MAGIC: u64 = 0x3145_5341_4341_524f;
+// The bytes ORACASE2.
+const FILE_MAGIC: u64 = 0x3245_5341_4341_524f;
 
 // The header of a case: how much a call is given and lent. What its kind does not use is 0.
 pub struct CaseHeader {
@@ -53,6 +55,12 @@ pub struct CaseHeader {
     pub letters_lent: u32,
     pub ends_lent: u32,
     pub block_lent: u32,
+    pub names: u32,
+    pub name_ends: u32,
+    // The name ends that are stored; the others are 0.
+    pub names_stored: u32,
+    pub names_lent: u32,
+    pub name_ends_lent: u32,
 }
 
 // How many cases a file says that it has.
@@ -128,6 +136,25 @@ pub fn ends_part(bytes: &[u8], header: CaseHeader) -> &[u8]
     bytes_from(bytes, ends_start(header), 4 * size32(header.stored))
 }
 
+// The names that are given to the writer.
+pub fn names_part(bytes: &[u8], header: CaseHeader) -> &[u8]
+    ensures { λ r. ⌜ now r ≡ part (now (bytes .entry)) (namesStart header) (header .names) ⌝ }
+{
+    bytes_from(bytes, names_start(header), size32(header.names))
+}
+
+// The name ends that are stored, four bytes each.
+pub fn name_ends_part(bytes: &[u8], header: CaseHeader) -> &[u8]
+    ensures { λ r. ⌜ now r
+        ≡ part (now (bytes .entry)) (nameEndsStart header) (4 * header .«names_stored») ⌝ }
+{
+    bytes_from(
+        bytes,
+        name_ends_start(header),
+        4 * size32(header.names_stored),
+    )
+}
+
 // The positions that are proposed, four bytes each.
 pub fn positions_part(bytes: &[u8], header: CaseHeader) -> &[u8]
     ensures { λ r. ⌜ now r
@@ -182,6 +209,11 @@ fn read_header(bytes: &[u8]) -> CaseHeader
         letters_lent: u32_at(bytes, 68),
         ends_lent: u32_at(bytes, 72),
         block_lent: u32_at(bytes, 76),
+        names: u32_at(bytes, 80),
+        name_ends: u32_at(bytes, 84),
+        names_stored: u32_at(bytes, 88),
+        names_lent: u32_at(bytes, 92),
+        name_ends_lent: u32_at(bytes, 96),
     }
 }
 
@@ -219,26 +251,38 @@ fn ends_start(header: CaseHeader) -> usize
     letters_start(header) + size32(header.letters)
 }
 
-fn positions_start(header: CaseHeader) -> usize
-    ensures { λ r. ⌜ (r ≡ positionsStart header) × (r < 2 ^ 36) ⌝ }
+fn names_start(header: CaseHeader) -> usize
+    ensures { λ r. ⌜ (r ≡ namesStart header) × (r < 2 ^ 36) ⌝ }
 {
     ends_start(header) + 4 * size32(header.stored)
 }
 
+fn name_ends_start(header: CaseHeader) -> usize
+    ensures { λ r. ⌜ (r ≡ nameEndsStart header) × (r < 2 ^ 37) ⌝ }
+{
+    names_start(header) + size32(header.names)
+}
+
+fn positions_start(header: CaseHeader) -> usize
+    ensures { λ r. ⌜ (r ≡ positionsStart header) × (r < 2 ^ 38) ⌝ }
+{
+    name_ends_start(header) + 4 * size32(header.names_stored)
+}
+
 fn strands_start(header: CaseHeader) -> usize
-    ensures { λ r. ⌜ (r ≡ strandsStart header) × (r < 2 ^ 37) ⌝ }
+    ensures { λ r. ⌜ (r ≡ strandsStart header) × (r < 2 ^ 39) ⌝ }
 {
     positions_start(header) + 4 * size32(header.positions)
 }
 
 fn lefts_start(header: CaseHeader) -> usize
-    ensures { λ r. ⌜ (r ≡ leftsStart header) × (r < 2 ^ 38) ⌝ }
+    ensures { λ r. ⌜ (r ≡ leftsStart header) × (r < 2 ^ 40) ⌝ }
 {
     strands_start(header) + size32(header.strands)
 }
 
 fn rights_start(header: CaseHeader) -> usize
-    ensures { λ r. ⌜ (r ≡ rightsStart header) × (r < 2 ^ 39) ⌝ }
+    ensures { λ r. ⌜ (r ≡ rightsStart header) × (r < 2 ^ 41) ⌝ }
 {
     lefts_start(header) + size32(header.lefts)
 }

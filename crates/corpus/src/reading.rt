@@ -14,10 +14,12 @@ use integers::size32;
 ghost use mathlib.Core.Path.{_≡_};
 ghost use lib.ListN.{length};
 
-// The most letters and ends that a case lends.
+// The most letters, ends and name bytes that a case lends; there are no more name ends than ends.
 const MAX_LETTERS: usize = 65_540;
 
 const MAX_ENDS: usize = 4_096;
+
+const MAX_NAMES: usize = 32_768;
 
 // What every lent byte and every lent end holds before a call.
 const UNTOUCHED_BYTE: u8 = 0xee;
@@ -42,25 +44,37 @@ pub fn run_validate(index: u32, bytes: &[u8], header: CaseHeader) {
     end_line();
 }
 
-// A block decoded, with the hashes of both buffers after the call; false where the case lends more
-// than there is.
+// A block decoded, with the hashes of the four buffers after the call; false where the case lends
+// more than there is.
 pub fn run_decode(index: u32, bytes: &[u8], header: CaseHeader) -> bool {
     let letter_room = size32(header.letters_lent);
     let end_room = size32(header.ends_lent);
+    let name_room = size32(header.names_lent);
+    let name_end_room = size32(header.name_ends_lent);
     if MAX_LETTERS < letter_room {
         return false;
     }
     if MAX_ENDS < end_room {
         return false;
     }
+    if MAX_NAMES < name_room {
+        return false;
+    }
+    if MAX_ENDS < name_end_room {
+        return false;
+    }
     let mut letters = untouched_letters();
     let mut ends = untouched_ends();
+    let mut names = untouched_names();
+    let mut name_ends = untouched_ends();
     decode_into(
         index,
         bytes,
         header,
         &mut letters[..letter_room],
         &mut ends[..end_room],
+        &mut names[..name_room],
+        &mut name_ends[..name_end_room],
     );
     true
 }
@@ -71,6 +85,12 @@ fn untouched_letters() -> [u8; MAX_LETTERS]
     [UNTOUCHED_BYTE; MAX_LETTERS]
 }
 
+fn untouched_names() -> [u8; MAX_NAMES]
+    ensures { λ r. ⌜ 32_768 ≡ length r ⌝ }
+{
+    [UNTOUCHED_BYTE; MAX_NAMES]
+}
+
 fn untouched_ends() -> [u32; MAX_ENDS]
     ensures { λ r. ⌜ 4_096 ≡ length r ⌝ }
 {
@@ -78,13 +98,29 @@ fn untouched_ends() -> [u32; MAX_ENDS]
 }
 
 // The line of a block that is decoded into these buffers.
-fn decode_into(index: u32, bytes: &[u8], header: CaseHeader, letters: &mut [u8], ends: &mut [u32]) {
+fn decode_into(
+    index: u32,
+    bytes: &[u8],
+    header: CaseHeader,
+    letters: &mut [u8],
+    ends: &mut [u32],
+    names: &mut [u8],
+    name_ends: &mut [u32],
+) {
     start_line(index, b"decode");
-    let reference = reference_part(bytes, header);
-    let input = input_part(bytes, header);
-    put_block_outcome(ora::decode(header.bases, reference, input, letters, ends));
+    put_block_outcome(ora::decode(
+        header.bases,
+        reference_part(bytes, header),
+        input_part(bytes, header),
+        letters,
+        ends,
+        names,
+        name_ends,
+    ));
     put_column(hash_of(letters));
     put_column(hash_numbers(ends));
+    put_column(hash_of(names));
+    put_column(hash_numbers(name_ends));
     end_line();
 }
 

@@ -7,6 +7,8 @@ use cases::case_file::CaseHeader;
 use cases::case_file::ends_part;
 use cases::case_file::lefts_part;
 use cases::case_file::letters_part;
+use cases::case_file::name_ends_part;
+use cases::case_file::names_part;
 use cases::case_file::positions_part;
 use cases::case_file::reference_part;
 use cases::case_file::rights_part;
@@ -18,8 +20,10 @@ ghost use mathlib.Core.Path.{_≡_};
 ghost use Prim.Native.Nat.{min};
 ghost use lib.ListN.{length};
 
-// The most ends and positions that a case gives, and the most bytes that it lends.
+// The most ends, name ends and positions that a case gives, and the most bytes that it lends.
 const MAX_ENDS: usize = 50_001;
+
+const MAX_NAME_ENDS: usize = 4_096;
 
 const MAX_POSITIONS: usize = 4_096;
 
@@ -32,9 +36,13 @@ const UNTOUCHED_BYTE: u8 = 0xee;
 // more than there is.
 pub fn run_encode(index: u32, bytes: &[u8], header: CaseHeader) -> bool {
     let end_count = size32(header.ends);
+    let name_end_count = size32(header.name_ends);
     let position_count = size32(header.positions);
     let room = size32(header.block_lent);
     if MAX_ENDS < end_count {
+        return false;
+    }
+    if MAX_NAME_ENDS < name_end_count {
         return false;
     }
     if MAX_POSITIONS < position_count {
@@ -44,26 +52,35 @@ pub fn run_encode(index: u32, bytes: &[u8], header: CaseHeader) -> bool {
         return false;
     }
     let mut ends = no_ends();
+    let mut name_ends = no_name_ends();
     let mut positions = no_positions();
     let mut out = untouched_block();
     fill_numbers(&mut ends, ends_part(bytes, header));
+    fill_numbers(&mut name_ends, name_ends_part(bytes, header));
     fill_numbers(&mut positions, positions_part(bytes, header));
     encode_into(
         index,
         bytes,
         header,
         &ends[..end_count],
+        &name_ends[..name_end_count],
         &positions[..position_count],
         &mut out[..room],
     );
     true
 }
 
-// Ends that are given but not stored are 0.
+// Ends and name ends that are given but not stored are 0.
 fn no_ends() -> [u32; MAX_ENDS]
     ensures { λ r. ⌜ 50_001 ≡ length r ⌝ }
 {
     [0u32; MAX_ENDS]
+}
+
+fn no_name_ends() -> [u32; MAX_NAME_ENDS]
+    ensures { λ r. ⌜ 4_096 ≡ length r ⌝ }
+{
+    [0u32; MAX_NAME_ENDS]
 }
 
 fn no_positions() -> [u32; MAX_POSITIONS]
@@ -103,6 +120,7 @@ fn encode_into(
     bytes: &[u8],
     header: CaseHeader,
     ends: &[u32],
+    name_ends: &[u32],
     positions: &[u32],
     out: &mut [u8],
 ) {
@@ -112,6 +130,8 @@ fn encode_into(
         reference_part(bytes, header),
         letters_part(bytes, header),
         ends,
+        names_part(bytes, header),
+        name_ends,
         positions,
         strands_part(bytes, header),
         lefts_part(bytes, header),

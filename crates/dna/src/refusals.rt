@@ -66,7 +66,7 @@ pub const N_POSITIONS_INVALID: u32 = 20;
 // Bytes of the DNA section are left over.
 pub const DNA_TRAILING: u32 = 21;
 
-// The letters or the ends do not fit the lent buffer.
+// The letters, the ends, the names or their ends do not fit the lent buffer.
 pub const CAPACITY_TOO_SMALL: u32 = 22;
 
 // Writer: reads above 50,000.
@@ -84,3 +84,11 @@ pub const LETTER_INVALID: u32 = 33;
 
 // Writer: the block is longer than the lent buffer.
 pub const BLOCK_CAPACITY_TOO_SMALL: u32 = 34;
+
+// The names section stores no names: it is malformed, or has a negative start, or a number above
+// 999,999,999,999,999,999. Given after 21, before 22.
+pub const NAMES_INVALID: u32 = 40;
+
+// Writer: names or their ends that break the rules, or are not one a read. Given after 33, before
+// 34.
+pub const LENT_NAMES_INVALID: u32 = 41;

@@ -24,8 +24,7 @@ ghost use Rattle.letter_packing.specs.Read.{ReadLies, codesIn};
 ghost use Rattle.reference.specs.Tables.{wordTable};
 ghost use Rattle.record_writer.specs.Written.{isForward, positionFor, recordWritten};
 ghost use Rattle.choices.specs.Choice.{candidateOf};
-ghost use Rattle.dna_writer.specs.Lent.{lentNumber};
-ghost use Rattle.format.specs.EncodeAnswer.{lent};
+ghost use Rattle.dna_writer.specs.Lent.{lentReads, lentNumber};
 ghost use Rattle.dna_writer.specs.Section.{bytesOf};
 ghost use Rattle.dna_writer.specs.Writer.{recordsFrom, flagBits, writerAfter};
 
@@ -60,31 +59,31 @@ pub fn put_group(
     at: usize,
 ) -> GroupWriter
     requires { ⌜ (lentNumber bases (now reference)
-        (lent (now letters) (now ends) (now positions) (now strands) (now lefts) (now rights) 0 0)
+        (lentReads (now letters) (now ends) (now positions) (now strands) (now lefts) (now rights))
         ≡ 0)
         × (now «forward_table» ≡ wordTable true)
         × (now «reverse_table» ≡ wordTable false)
         × (maxEntries ≤ length (now list)) ⌝ }
     requires { ⌜ (first < length (now ends))
         × (at + length (groupBytes (writtenGroup (take 8 (recordsFrom bases (now reference)
-        (lent (now letters) (now ends) (now positions) (now strands) (now lefts) (now rights) 0 0)
+        (lentReads (now letters) (now ends) (now positions) (now strands) (now lefts) (now rights))
         previous first)))) ≤ length (now out)) ⌝ }
     ensures { λ r. ⌜ (now (out .exit) ≡ pasted (now (out .entry)) at
         (groupBytes (writtenGroup (take 8 (recordsFrom bases (now (reference .entry))
-        (lent (now (letters .entry)) (now (ends .entry)) (now (positions .entry))
-        (now (strands .entry)) (now (lefts .entry)) (now (rights .entry)) 0 0)
+        (lentReads (now (letters .entry)) (now (ends .entry)) (now (positions .entry))
+        (now (strands .entry)) (now (lefts .entry)) (now (rights .entry)))
         previous first)))))
         × (r .place ≡ at + length (groupBytes (writtenGroup (take 8
         (recordsFrom bases (now (reference .entry))
-        (lent (now (letters .entry)) (now (ends .entry)) (now (positions .entry))
-        (now (strands .entry)) (now (lefts .entry)) (now (rights .entry)) 0 0)
+        (lentReads (now (letters .entry)) (now (ends .entry)) (now (positions .entry))
+        (now (strands .entry)) (now (lefts .entry)) (now (rights .entry)))
         previous first)))))
         × (drop 8 (recordsFrom bases (now (reference .entry))
-        (lent (now (letters .entry)) (now (ends .entry)) (now (positions .entry))
-        (now (strands .entry)) (now (lefts .entry)) (now (rights .entry)) 0 0) previous first)
+        (lentReads (now (letters .entry)) (now (ends .entry)) (now (positions .entry))
+        (now (strands .entry)) (now (lefts .entry)) (now (rights .entry))) previous first)
         ≡ recordsFrom bases (now (reference .entry))
-        (lent (now (letters .entry)) (now (ends .entry)) (now (positions .entry))
-        (now (strands .entry)) (now (lefts .entry)) (now (rights .entry)) 0 0)
+        (lentReads (now (letters .entry)) (now (ends .entry)) (now (positions .entry))
+        (now (strands .entry)) (now (lefts .entry)) (now (rights .entry)))
         (r .previous) (first + 8)) ⌝ }
 {
     let reads = group_size(ends.len(), first);

@@ -15,8 +15,7 @@ ghost use lib.ListN.{length};
 ghost use Rattle.base.specs.Paste.{pasted};
 ghost use Rattle.dna.specs.Record.{maxEntries};
 ghost use Rattle.reference.specs.Tables.{wordTable};
-ghost use Rattle.dna_writer.specs.Lent.{lentNumber};
-ghost use Rattle.format.specs.EncodeAnswer.{lent};
+ghost use Rattle.dna_writer.specs.Lent.{lentReads, lentNumber};
 ghost use Rattle.dna_writer.specs.Section.{recordsOf, bytesOf, dnaBytes, nBytes};
 
 // One group of reads.
@@ -36,13 +35,13 @@ pub fn dna_length(
     reverse_table: &[u64; 256],
 ) -> usize
     requires { ⌜ (lentNumber bases (now reference)
-        (lent (now letters) (now ends) (now positions) (now strands) (now lefts) (now rights) 0 0)
+        (lentReads (now letters) (now ends) (now positions) (now strands) (now lefts) (now rights))
         ≡ 0)
         × (now «forward_table» ≡ wordTable true)
         × (now «reverse_table» ≡ wordTable false) ⌝ }
     ensures { λ r. ⌜ r ≡ length (dnaBytes (recordsOf bases (now (reference .entry))
-        (lent (now (letters .entry)) (now (ends .entry)) (now (positions .entry))
-        (now (strands .entry)) (now (lefts .entry)) (now (rights .entry)) 0 0))) ⌝ }
+        (lentReads (now (letters .entry)) (now (ends .entry)) (now (positions .entry))
+        (now (strands .entry)) (now (lefts .entry)) (now (rights .entry))))) ⌝ }
 {
     let mut list = [0u8; 32];
     let records = records_length(
@@ -76,14 +75,14 @@ fn records_length(
     list: &mut [u8],
 ) -> usize
     requires { ⌜ (lentNumber bases (now reference)
-        (lent (now letters) (now ends) (now positions) (now strands) (now lefts) (now rights) 0 0)
+        (lentReads (now letters) (now ends) (now positions) (now strands) (now lefts) (now rights))
         ≡ 0)
         × (now «forward_table» ≡ wordTable true)
         × (now «reverse_table» ≡ wordTable false)
         × (maxEntries ≤ length (now list)) ⌝ }
     ensures { λ r. ⌜ (r ≡ length (flatMap bytesOf (recordsOf bases (now (reference .entry))
-        (lent (now (letters .entry)) (now (ends .entry)) (now (positions .entry))
-        (now (strands .entry)) (now (lefts .entry)) (now (rights .entry)) 0 0))))
+        (lentReads (now (letters .entry)) (now (ends .entry)) (now (positions .entry))
+        (now (strands .entry)) (now (lefts .entry)) (now (rights .entry))))))
         × (r ≤ 2 ^ 40) ⌝ }
 {
     let mut sum: usize = 0;
@@ -140,24 +139,26 @@ pub fn put_dna(
     n_at: usize,
 )
     requires { ⌜ (lentNumber bases (now reference)
-        (lent (now letters) (now ends) (now positions) (now strands) (now lefts) (now rights) 0 0)
+        (lentReads (now letters) (now ends) (now positions) (now strands) (now lefts) (now rights))
         ≡ 0)
         × (now «forward_table» ≡ wordTable true)
         × (now «reverse_table» ≡ wordTable false) ⌝ }
     requires { ⌜ (at + length (dnaBytes (recordsOf bases (now reference)
-        (lent (now letters) (now ends) (now positions) (now strands) (now lefts) (now rights) 0 0)))
+        (lentReads (now letters) (now ends) (now positions) (now strands) (now lefts)
+        (now rights))))
         ≤ «n_at»)
         × («n_at» + length (nBytes (recordsOf bases (now reference)
-        (lent (now letters) (now ends) (now positions) (now strands) (now lefts) (now rights) 0 0)))
+        (lentReads (now letters) (now ends) (now positions) (now strands) (now lefts)
+        (now rights))))
         ≤ length (now out)) ⌝ }
     ensures { λ _. ⌜ now (out .exit)
         ≡ pasted (pasted (now (out .entry)) at
         (dnaBytes (recordsOf bases (now (reference .entry))
-        (lent (now (letters .entry)) (now (ends .entry)) (now (positions .entry))
-        (now (strands .entry)) (now (lefts .entry)) (now (rights .entry)) 0 0)))) «n_at»
+        (lentReads (now (letters .entry)) (now (ends .entry)) (now (positions .entry))
+        (now (strands .entry)) (now (lefts .entry)) (now (rights .entry)))))) «n_at»
         (nBytes (recordsOf bases (now (reference .entry))
-        (lent (now (letters .entry)) (now (ends .entry)) (now (positions .entry))
-        (now (strands .entry)) (now (lefts .entry)) (now (rights .entry)) 0 0))) ⌝ }
+        (lentReads (now (letters .entry)) (now (ends .entry)) (now (positions .entry))
+        (now (strands .entry)) (now (lefts .entry)) (now (rights .entry))))) ⌝ }
 {
     let mut list = [0u8; 32];
     put_groups(
@@ -196,25 +197,27 @@ fn put_groups(
     n_at: usize,
 )
     requires { ⌜ (lentNumber bases (now reference)
-        (lent (now letters) (now ends) (now positions) (now strands) (now lefts) (now rights) 0 0)
+        (lentReads (now letters) (now ends) (now positions) (now strands) (now lefts) (now rights))
         ≡ 0)
         × (now «forward_table» ≡ wordTable true)
         × (now «reverse_table» ≡ wordTable false)
         × (maxEntries ≤ length (now list)) ⌝ }
     requires { ⌜ (at + length (dnaBytes (recordsOf bases (now reference)
-        (lent (now letters) (now ends) (now positions) (now strands) (now lefts) (now rights) 0 0)))
+        (lentReads (now letters) (now ends) (now positions) (now strands) (now lefts)
+        (now rights))))
         ≤ «n_at»)
         × («n_at» + length (nBytes (recordsOf bases (now reference)
-        (lent (now letters) (now ends) (now positions) (now strands) (now lefts) (now rights) 0 0)))
+        (lentReads (now letters) (now ends) (now positions) (now strands) (now lefts)
+        (now rights))))
         ≤ length (now out)) ⌝ }
     ensures { λ _. ⌜ now (out .exit)
         ≡ pasted (pasted (now (out .entry)) at
         (dnaBytes (recordsOf bases (now (reference .entry))
-        (lent (now (letters .entry)) (now (ends .entry)) (now (positions .entry))
-        (now (strands .entry)) (now (lefts .entry)) (now (rights .entry)) 0 0)))) «n_at»
+        (lentReads (now (letters .entry)) (now (ends .entry)) (now (positions .entry))
+        (now (strands .entry)) (now (lefts .entry)) (now (rights .entry)))))) «n_at»
         (nBytes (recordsOf bases (now (reference .entry))
-        (lent (now (letters .entry)) (now (ends .entry)) (now (positions .entry))
-        (now (strands .entry)) (now (lefts .entry)) (now (rights .entry)) 0 0))) ⌝ }
+        (lentReads (now (letters .entry)) (now (ends .entry)) (now (positions .entry))
+        (now (strands .entry)) (now (lefts .entry)) (now (rights .entry))))) ⌝ }
 {
     let mut place = at;
     let mut previous: u64 = 0;

@@ -1,6 +1,7 @@
 // The specification's sums on lone differences: a read of 2,000 letters A at the start of a
 // reference of 2,000 bases A, with a C at one place. At 64 it takes a filler and the difference, at
 // 127 two fillers, at 1953 thirty; at 1954 it would take 32 entries, and the read goes raw.
+// The read's name, r, takes a names section of 15 bytes.
 use crate::show::UNTOUCHED;
 use crate::show::show;
 ghost use mathlib.Core.Path.{_≡_};
@@ -10,7 +11,7 @@ const READ_LENGTH: usize = 2_000;
 
 const REFERENCE_SIZE: usize = 500;
 
-const MAX_BLOCK: usize = 640;
+const MAX_BLOCK: usize = 656;
 
 pub fn run_differences() {
     run_difference(b"difference at 63", 63);
@@ -30,6 +31,8 @@ fn run_difference(label: &[u8], place: usize) {
         &bases_a(),
         &letters,
         &[2_000u32],
+        b"r",
+        &[1u32],
         &[0u32],
         &[1u8],
         &[0u8],

@@ -1,11 +1,12 @@
 // Two reads under the reference ACGTACGTTGCA that are written, and for each number of refusal the
 // same call with one thing wrong. The first read is perfect at 4, a step from 0; the second lies
 // before it and so has a position of four bytes, and its third letter differs. The block takes 121
-// bytes, a DNA section of 12 and an N section of one.
+// bytes, a DNA section of 12, a names section of 35 and an N section of one. The names are r1 and
+// r2: a count of 4 bytes, 2 types, 2 sizes of 8, the strings r and r, the number 1 and a step of 1.
 use crate::show::UNTOUCHED;
 use crate::show::show;
 
-const BLOCK_LENGTH: usize = 134;
+const BLOCK_LENGTH: usize = 169;
 
 const TOO_MANY_READS: usize = 50_001;
 
@@ -59,6 +60,8 @@ fn run_two(label: &[u8], bases: u64, letters: &[u8], ends: &[u32], rights: &[u8]
         &[0x1b, 0x1b, 0xe4],
         letters,
         ends,
+        b"r1r2",
+        &[2u32, 4u32],
         &[4u32, 0u32],
         &[1u8, 1u8],
         &[0u8, 0u8],
@@ -76,6 +79,8 @@ fn run_short() {
         &[0x1b, 0x1b, 0xe4],
         b"ACGTACTT",
         &[4u32, 8u32],
+        b"r1r2",
+        &[2u32, 4u32],
         &[4u32, 0u32],
         &[1u8, 1u8],
         &[0u8, 0u8],
@@ -94,6 +99,8 @@ fn run_many() {
         &[0x1b, 0x1b, 0xe4],
         b"ACGTACTT",
         &ends,
+        b"r1r2",
+        &[2u32, 4u32],
         &[4u32, 0u32],
         &[1u8, 1u8],
         &[0u8, 0u8],

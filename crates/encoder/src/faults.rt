@@ -15,8 +15,7 @@ ghost use lib.Dec.{eqb};
 ghost use Rattle.base.specs.Lists.{any, member, stepsFrom};
 ghost use Rattle.dna.specs.Reference.{alphabet};
 ghost use Rattle.dna.specs.Sizes.{lengthInvalid};
-ghost use Rattle.dna_writer.specs.Lent.{lentNumber};
-ghost use Rattle.format.specs.EncodeAnswer.{lent};
+ghost use Rattle.dna_writer.specs.Lent.{lentNumber, lentReads};
 
 // The most reads that a block may have.
 const MAX_READS: usize = 50_000;
@@ -36,8 +35,8 @@ pub fn lent_fault(
     rights: &[u8],
 ) -> u32
     ensures { λ r. ⌜ r ≡ lentNumber bases (now (reference .entry))
-        (lent (now (letters .entry)) (now (ends .entry)) (now (positions .entry))
-        (now (strands .entry)) (now (lefts .entry)) (now (rights .entry)) 0 0) ⌝ }
+        (lentReads (now (letters .entry)) (now (ends .entry)) (now (positions .entry))
+        (now (strands .entry)) (now (lefts .entry)) (now (rights .entry))) ⌝ }
 {
     if reference_size_wrong(bases, reference) {
         return REFERENCE_SIZE_WRONG;

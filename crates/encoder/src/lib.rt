@@ -1,7 +1,8 @@
-// Writing a block by the fixed rule (01, The writer's fixed rule): the faults of what is lent, then
-// the lengths of the sections, then their bytes. The contract of the public call cites
-// specs/EncodeAnswer.antt of format; it has no `requires`.
+// Writing a block by the fixed rule (01, The writer's fixed rule; 02, Ticket 1): the faults of what
+// is lent, then the lengths of the sections, then their bytes. The contract of the public call
+// cites specs/EncodeAnswer.antt of format; it has no `requires`.
 use dna::refusals::BLOCK_CAPACITY_TOO_SMALL;
+use dna::refusals::LENT_NAMES_INVALID;
 use dna_writer::dna_length;
 use dna_writer::put_dna;
 use faults::lent_fault;
@@ -12,39 +13,46 @@ use header::writing::put_header;
 use lengths::write::all_equal;
 use lengths::write::put_sizes;
 use lengths::write::sizes_length;
+use names_writer::MAX_NAME;
+use names_writer::measure;
+use names_writer::names_refused;
+use names_writer::put_section;
 use reference::word_table;
 ghost use mathlib.Core.Path.{_≡_};
-ghost use mathlib.Core.Bool.{cond};
+ghost use mathlib.Core.Bool.{false, cond};
 ghost use mathlib.Core.List.{List};
 ghost use Prim.Native.Nat.{ℕ, _+_, _≤_};
 ghost use lib.ListN.{length, getD};
 ghost use Rattle.base.specs.Lists.{stepsFrom};
 ghost use Rattle.base.specs.Groups.{groupCount};
 ghost use Rattle.base.specs.Paste.{pasted};
+ghost use Rattle.tokens.specs.WrittenNames.{namesRefused};
 ghost use Rattle.format.specs.Answered.{outcomeOfEncode};
 ghost use Rattle.format.specs.HeaderFaults.{maxReads};
 ghost use Rattle.format.specs.EncodeAnswer.{lent, encoded, encodedBuffer};
 ghost use Rattle.format.specs.Header.{tableLength, headerBytes};
 ghost use Rattle.format.specs.RuleBlock.{allEqual, writtenSizes, writtenFields, writtenHeader};
 ghost use Rattle.header.specs.WrittenHeader.{fieldsOf};
-ghost use Rattle.dna_writer.specs.Lent.{lentNumber};
+ghost use Rattle.dna_writer.specs.Lent.{lentNumber, lentReads};
 ghost use Rattle.encoder.specs.Lengths.{LengthsKnown};
 
 // The faults 1 and 30 to 33.
 pub mod faults;
 
-// Flag 0x4, and with it 0x1.
-const FLAGS: u32 = 0x4;
+// Flag 0x8, and with it 0x1.
+const FLAGS: u32 = 0x8;
 
-const FLAGS_EQUAL: u32 = 0x5;
+const FLAGS_EQUAL: u32 = 0x9;
 
-// Writes the block of the reads to the start of `out`, with 1 and 30 to 34: its length, or the
-// refusal. What lies past the block stays; a refusal changes nothing.
+// Writes the block of the reads and names to the start of `out`, with 1, 30 to 34 and 41: its
+// length, or the refusal. What lies past the block stays; a refusal changes nothing.
 pub fn encode(
     bases: u64,
     reference: &[u8],
     letters: &[u8],
     ends: &[u32],
+    names: &[u8],
+    name_ends: &[u32],
     positions: &[u32],
     strands: &[u8],
     lefts: &[u8],
@@ -55,13 +63,15 @@ pub fn encode(
 ) -> EncodeOutcome
     ensures { λ r. ⌜ (outcomeOfEncode r
         ≡ encoded bases (now (reference .entry))
-        (lent (now (letters .entry)) (now (ends .entry)) (now (positions .entry))
-        (now (strands .entry)) (now (lefts .entry)) (now (rights .entry)) «b_id» «c_time»)
+        (lent (now (letters .entry)) (now (ends .entry)) (now (names .entry))
+        (now («name_ends» .entry)) (now (positions .entry)) (now (strands .entry))
+        (now (lefts .entry)) (now (rights .entry)) «b_id» «c_time»)
         (now (out .entry)))
         × (now (out .exit)
         ≡ encodedBuffer bases (now (reference .entry))
-        (lent (now (letters .entry)) (now (ends .entry)) (now (positions .entry))
-        (now (strands .entry)) (now (lefts .entry)) (now (rights .entry)) «b_id» «c_time»)
+        (lent (now (letters .entry)) (now (ends .entry)) (now (names .entry))
+        (now («name_ends» .entry)) (now (positions .entry)) (now (strands .entry))
+        (now (lefts .entry)) (now (rights .entry)) «b_id» «c_time»)
         (now (out .entry))) ⌝ }
 {
     let number = lent_fault(
@@ -77,11 +87,16 @@ pub fn encode(
     if number != 0 {
         return EncodeOutcome::Refused(number);
     }
+    if names_refused(names, name_ends, ends.len()) {
+        return EncodeOutcome::Refused(LENT_NAMES_INVALID);
+    }
     encode_lent(
         bases,
         reference,
         letters,
         ends,
+        names,
+        name_ends,
         positions,
         strands,
         lefts,
@@ -92,12 +107,14 @@ pub fn encode(
     )
 }
 
-// The same for an input that earns none of 1 and 30 to 33.
+// The same for an input that earns none of 1, 30 to 33 and 41.
 fn encode_lent(
     bases: u64,
     reference: &[u8],
     letters: &[u8],
     ends: &[u32],
+    names: &[u8],
+    name_ends: &[u32],
     positions: &[u32],
     strands: &[u8],
     lefts: &[u8],
@@ -107,17 +124,20 @@ fn encode_lent(
     out: &mut [u8],
 ) -> EncodeOutcome
     requires { ⌜ lentNumber bases (now reference)
-        (lent (now letters) (now ends) (now positions) (now strands) (now lefts) (now rights) 0 0)
+        (lentReads (now letters) (now ends) (now positions) (now strands) (now lefts) (now rights))
         ≡ 0 ⌝ }
+    requires { ⌜ namesRefused (length (now ends)) (now names) (now «name_ends») ≡ false ⌝ }
     ensures { λ r. ⌜ (outcomeOfEncode r
         ≡ encoded bases (now (reference .entry))
-        (lent (now (letters .entry)) (now (ends .entry)) (now (positions .entry))
-        (now (strands .entry)) (now (lefts .entry)) (now (rights .entry)) «b_id» «c_time»)
+        (lent (now (letters .entry)) (now (ends .entry)) (now (names .entry))
+        (now («name_ends» .entry)) (now (positions .entry)) (now (strands .entry))
+        (now (lefts .entry)) (now (rights .entry)) «b_id» «c_time»)
         (now (out .entry)))
         × (now (out .exit)
         ≡ encodedBuffer bases (now (reference .entry))
-        (lent (now (letters .entry)) (now (ends .entry)) (now (positions .entry))
-        (now (strands .entry)) (now (lefts .entry)) (now (rights .entry)) «b_id» «c_time»)
+        (lent (now (letters .entry)) (now (ends .entry)) (now (names .entry))
+        (now («name_ends» .entry)) (now (positions .entry)) (now (strands .entry))
+        (now (lefts .entry)) (now (rights .entry)) «b_id» «c_time»)
         (now (out .entry))) ⌝ }
 {
     let forward = word_table(true);
@@ -134,14 +154,28 @@ fn encode_lent(
         &forward,
         &reverse,
     );
+    let mut kinds = [0u8; MAX_NAME];
+    let mut columns = [0usize; MAX_NAME];
+    let named = measure(names, name_ends, &mut kinds, &mut columns);
     let equal = all_equal(ends);
     let sizes = size_section_length(ends, equal);
-    let ns = TABLE_LENGTH + dna + sizes;
+    let ns = TABLE_LENGTH + dna + named + sizes;
     let end = ns + (ends.len() + 7) / 8;
     if out.len() < end {
         return EncodeOutcome::Refused(BLOCK_CAPACITY_TOO_SMALL);
     }
-    put_front(ends, equal, letters.len(), dna, sizes, b_id, c_time, out);
+    put_front(
+        ends,
+        equal,
+        letters.len(),
+        dna,
+        named,
+        sizes,
+        b_id,
+        c_time,
+        out,
+    );
+    put_section(names, name_ends, &kinds, &columns, out, TABLE_LENGTH + dna);
     put_dna(
         bases,
         reference,
@@ -160,30 +194,32 @@ fn encode_lent(
     EncodeOutcome::Written(end as u64)
 }
 
-// Writes the header, and the size section after a DNA section of `dna` bytes.
+// Writes the header, and the size section after DNA of `dna` bytes and names of `named`.
 fn put_front(
     ends: &[u32],
     equal: bool,
     letters: usize,
     dna: usize,
+    named: usize,
     sizes: usize,
     id: u64,
     time: u64,
     out: &mut [u8],
 )
-    requires { ⌜ LengthsKnown (now ends) equal letters dna sizes ⌝ }
-    requires { ⌜ tableLength + dna + sizes ≤ length (now out) ⌝ }
+    requires { ⌜ LengthsKnown (now ends) equal letters dna named sizes ⌝ }
+    requires { ⌜ tableLength + dna + named + sizes ≤ length (now out) ⌝ }
     ensures { λ _. ⌜ ((ns : List ℕ) → length ns ≡ groupCount (length (now (ends .entry)))
         → now (out .exit) ≡ pasted (pasted (now (out .entry)) 0
-        (headerBytes (writtenHeader id time dna (writtenSizes (stepsFrom 0 (now (ends .entry)))) ns
-        (stepsFrom 0 (now (ends .entry)))))) (tableLength + dna)
+        (headerBytes (writtenHeader id time dna named
+        (writtenSizes (stepsFrom 0 (now (ends .entry)))) ns
+        (stepsFrom 0 (now (ends .entry)))))) (tableLength + dna + named)
         (writtenSizes (stepsFrom 0 (now (ends .entry))))) ⌝ }
 {
     put_header(
         out,
-        varying_fields(ends, equal, letters, dna, sizes, id, time),
+        varying_fields(ends, equal, letters, dna, named, sizes, id, time),
     );
-    put_size_section(ends, equal, out, TABLE_LENGTH + dna);
+    put_size_section(ends, equal, out, TABLE_LENGTH + dna + named);
 }
 
 // How many bytes the size section takes; none where all lengths are equal.
@@ -217,17 +253,20 @@ fn varying_fields(
     equal: bool,
     letters: usize,
     dna: usize,
+    named: usize,
     sizes: usize,
     id: u64,
     time: u64,
 ) -> VaryingFields
-    requires { ⌜ LengthsKnown (now ends) equal letters dna sizes ⌝ }
+    requires { ⌜ LengthsKnown (now ends) equal letters dna named sizes ⌝ }
     ensures { λ r. ⌜ ((ns : List ℕ) → length ns ≡ groupCount (length (now (ends .entry)))
-        → fieldsOf r ≡ writtenFields id time dna (writtenSizes (stepsFrom 0 (now (ends .entry)))) ns
+        → fieldsOf r ≡ writtenFields id time dna named
+        (writtenSizes (stepsFrom 0 (now (ends .entry)))) ns
         (stepsFrom 0 (now (ends .entry)))) ⌝ }
 {
     VaryingFields {
         l_dna: dna as u32,
+        l_names: named as u32,
         l_size: sizes as u32,
         l_n: ((ends.len() + 7) / 8) as u32,
         flags: flags(equal),
@@ -241,7 +280,7 @@ fn varying_fields(
 
 // Flag 0x1 where all lengths are equal.
 fn flags(equal: bool) -> u32
-    ensures { λ r. ⌜ r ≡ cond equal 0x5 0x4 ⌝ }
+    ensures { λ r. ⌜ r ≡ cond equal 0x9 0x8 ⌝ }
 {
     if equal {
         return FLAGS_EQUAL;

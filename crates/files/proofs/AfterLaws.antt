@@ -20,7 +20,7 @@ use Rattle.format.specs.Joined.{blockCounts, fileCounts}
 use Rattle.format.specs.Outcome.{Outcome, refusal, acceptedBlock, acceptedFile, modulo64}
 use Rattle.format.specs.BlockAnswer.{blockAnswer, blockOutcome, validatedBlock}
 use Rattle.format.specs.FileAnswer.{BlockRefusal, inFirst, inLater, blocksAnswer, fileAnswer, fileOutcome, validated}
-use Rattle.format.proofs.AnswerNumbers.{OwnRefusal, block-own}
+use Rattle.format.proofs.AnswerNumbers.{OwnRefusal, least-own, block-own}
 use Rattle.format.proofs.BlockLaws.{Accepted, block-found}
 use Rattle.format.proofs.HeaderLaws.{HeaderRight, faults-right}
 use Rattle.format.proofs.JudgesFiles.Blocks.{onBlock, blocks-step, blocks-none}
@@ -49,7 +49,7 @@ found-by bases reference input bytes counts (found divided next) is own same =
     }
 found-by bases reference input bytes counts (refused why) is own same =
     let none : 0 ≡ why .number = ap (λ (o : Outcome). o .number) same in
-    absurd (omega (arith, own .least))
+    absurd (omega (arith, least-own 1 (omega arith) (own .number-own)))
 
 pub outcome-found : (bases : ℕ) (reference input : List ℕ) (bytes : ℕ) (counts : Counted)
     → acceptedBlock bytes counts ≡ validatedBlock bases reference input
@@ -104,7 +104,8 @@ outcome-refused bases reference input number read all e =
 pub refused-number : (bases : ℕ) (reference input : List ℕ) (number read : ℕ)
     → blockAnswer bases reference input ≡ refused (ofRead read number) → 1 ≤ number
 refused-number bases reference input number read e =
-    refuses-with (OwnRefusal 1 21 (readCount (headerOf input))) e (block-own bases reference input) .least
+    least-own 1 (omega arith)
+    (refuses-with (OwnRefusal 1 21 (readCount (headerOf input))) e (block-own bases reference input) .number-own)
 
 -- ---- The file
 

@@ -1,17 +1,19 @@
 -- The judgement of a block accepts exactly the inputs that begin with a well-formed block. Assumes nothing.
 use mathlib.Core.Path.{_≡_, refl, sym, ap, ap₂, _∙_, subst}
-use Prim.Native.Nat.{ℕ, zero, suc, _+_, _≤_}
+use Prim.Native.Nat.{ℕ, zero, suc, _+_, _≤_, _<_, _^_}
 use native.Mathlib.Omega.{arith}
 use mathlib.Core.Bool.{Bool, true, false, cond, not, _&&_, _||_}
 use mathlib.Core.List.{List, [], _∷_, _++_}
-use lib.ListN.{length, take, drop, replicate, length-append, length-replicate, take-append-drop}
+use lib.ListN.{length, take, drop, replicate, length-append, length-replicate}
+use lib.ListN.{take-append-drop}
 use lib.Seq.{length-take-le}
 use lib.IntN.{ℤ, pos, negsuc}
 use lib.Dec.{ltb, eqb}
 use borrow.Author.Tests.{ltb-true, ltb-false, lt-ltb, le-ltb, eqb-true}
 use Rattle.base.specs.Lists.{any, AllBytes}
 use Rattle.base.specs.Groups.{groupCount}
-use Rattle.base.specs.Numbers.{nonNegative}
+use Rattle.base.specs.Numbers.{le, nonNegative}
+use Rattle.base.proofs.NumberLaws.{le-below}
 use Rattle.base.specs.Faults.{NoneFits}
 use Rattle.base.specs.Answer.{found, refusedAs}
 use Rattle.base.proofs.Tests.{absurd-test, or-neither, neither-or, and-first, not-false}
@@ -28,14 +30,19 @@ use Rattle.dna.proofs.SizesComplete.{sizes-answer}
 use Rattle.dna.proofs.SizesSound.{answer-sizes}
 use Rattle.dna.proofs.WalkComplete.{divides-walk}
 use Rattle.dna.proofs.WalkSound.{walk-divides}
-use Rattle.format.specs.Header.{Header, headerOf, flagSet, sameLengthFlag, readCount}
-use Rattle.format.specs.Sections.{dnaNumber, sizeNumber, nNumber, sectionStart, sectionLength}
-use Rattle.format.specs.Sections.{sectionOf, blockLength}
+use Rattle.tokens.specs.NamesAt.{namesGiven}
+use Rattle.tokens.proofs.NamesGiven.{stored-given, given-stored}
+use Rattle.format.specs.Header.{Header, headerOf, flagSet, sameLengthFlag, namesFlag}
+use Rattle.format.specs.Header.{readCount}
+use Rattle.format.specs.Sections.{dnaNumber, namesNumber, sizeNumber, nNumber, sectionStart}
+use Rattle.format.specs.Sections.{sectionLengths, sectionLength, sectionOf, blockLength}
 use Rattle.format.specs.HeaderFaults.{headerFaults}
 use Rattle.format.specs.Lengths.{HeaderLengths, LengthsBy, LengthsAre, dnaSizeWrong}
 use Rattle.format.specs.Lengths.{nSectionWrong, lengthFaults}
 use Rattle.format.specs.WellFormed.{BlockDivision, DividesBlock, WellFormed}
-use Rattle.format.specs.BlockAnswer.{lengthsAnswer, dnaTrailing, blockAnswer}
+use Rattle.format.specs.BlockNames.{NamesBy, NamesAre}
+use Rattle.format.specs.BlockAnswer.{lengthsAnswer, dnaTrailing, dnaAnswer, namesAnswer}
+use Rattle.format.specs.BlockAnswer.{blockAnswer}
 use Rattle.format.proofs.HeaderLaws.{headerOf-append, sectionOf-append, HeaderRight}
 use Rattle.format.proofs.HeaderLaws.{faults-right, faults-same}
 
@@ -130,6 +137,50 @@ lengths-found input lengths next bytes e =
     ] in
     go (flagSet (headerOf input .flags) sameLengthFlag) e
 
+-- ---- Names
+
+-- What is taken of a list is at most what was asked for.
+take-short : (n : ℕ) (list : List ℕ) → length (take n list) ≤ n
+take-short zero list = omega arith
+take-short (suc n) [] = omega arith
+take-short (suc n) (x ∷ xs) = omega (arith, take-short n xs)
+
+-- A names section is as short as the four bytes of its length can say.
+pub names-short : (input : List ℕ) → AllBytes input → length (sectionOf input namesNumber) < 2 ^ 32
+unfolding sectionOf sectionLength sectionLengths headerOf
+names-short input bytes =
+    let few : length (sectionOf input namesNumber) ≤ le 4 input 10 = take-short (le 4 input 10) _ in
+    omega (arith, le-below 4 input 10 bytes)
+
+-- The names of a block are its answer.
+pub names-find : (input : List ℕ) (names : List (List ℕ)) → length (sectionOf input namesNumber) < 2 ^ 32 → NamesAre input names
+    → (next : ℕ) × (namesAnswer input ≡ found names next)
+unfolding namesAnswer
+names-find input names short h =
+    let reads : ℕ = readCount (headerOf input) in
+    let section : List ℕ = sectionOf input namesNumber in
+    let go : (t : Bool) → flagSet (headerOf input .flags) namesFlag ≡ t → NamesBy t reads section names
+    → (next : ℕ) × (namesAnswer input ≡ found names next)
+    = λ t. elim t [
+      | true ↦ λ e l. (length section, cond-yes _ e (stored-given reads section names (omega arith) l))
+      | false ↦ λ e l. (0, cond-no _ e (ap (λ (ns : List (List ℕ)). found ns 0) (sym l)))
+    ] in
+    go (flagSet (headerOf input .flags) namesFlag) refl h
+
+-- What is answered are the names of the block.
+pub names-answered : (input : List ℕ) (names : List (List ℕ)) (next : ℕ) → AllBytes (sectionOf input namesNumber) → namesAnswer input ≡ found names next
+    → NamesAre input names
+unfolding namesAnswer
+names-answered input names next bytes e =
+    let reads : ℕ = readCount (headerOf input) in
+    let section : List ℕ = sectionOf input namesNumber in
+    let go : (t : Bool) → cond t (namesGiven reads section) (found [] 0) ≡ found names next → NamesBy t reads section names
+    = λ t. elim t [
+      | true ↦ λ h. given-stored reads section names next bytes h .0
+      | false ↦ λ h. sym (found-same h .0)
+    ] in
+    go (flagSet (headerOf input .flags) namesFlag) e
+
 -- ---- A block and what follows it
 
 -- Two inputs have the same header and the same sections.
@@ -145,6 +196,11 @@ lengths-same : (one other lengths : List ℕ) → SameBlock one other → Length
 lengths-same one other lengths s h =
     subst (λ (section : List ℕ). LengthsBy (flagSet (headerOf other .flags) sameLengthFlag) (headerOf other) section lengths) (s .sections sizeNumber)
     (subst (λ (header : Header). LengthsBy (flagSet (header .flags) sameLengthFlag) header (sectionOf one sizeNumber) lengths) (s .header) h)
+
+names-same : (one other : List ℕ) (names : List (List ℕ)) → SameBlock one other → NamesAre one names → NamesAre other names
+names-same one other names s h =
+    subst (λ (section : List ℕ). NamesBy (flagSet (headerOf other .flags) namesFlag) (readCount (headerOf other)) section names) (s .sections namesNumber)
+    (subst (λ (header : Header). NamesBy (flagSet (header .flags) namesFlag) (readCount header) (sectionOf one namesNumber) names) (s .header) h)
 
 lengthFaults-same : (one other lengths : List ℕ) → SameBlock one other → NoneFits (lengthFaults one lengths) → NoneFits (lengthFaults other lengths)
 unfolding lengthFaults any dnaSizeWrong nSectionWrong
@@ -164,6 +220,7 @@ divides-same bases one other divided s d =
       divides =
           subst (λ (dna : List ℕ). Divides bases (divided .lengths) (sectionOf other nNumber) dna (divided .division)) (s .sections dnaNumber)
           (subst (λ (n : List ℕ). Divides bases (divided .lengths) n (sectionOf one dnaNumber) (divided .division)) (s .sections nNumber) (d .divides));
+      names-are = names-same one other (divided .names) s (d .names-are);
     }
 
 back : {one other : List ℕ} → SameBlock one other → SameBlock other one
@@ -174,20 +231,28 @@ pub one-lengths : (input ones others : List ℕ) → LengthsAre input ones → L
 one-lengths input ones others h k =
     found-same (sym (lengths-find input ones h .1) ∙ lengths-find input others k .1) .0
 
+-- The names of a block are unique.
+pub one-names : (input : List ℕ) (ones others : List (List ℕ)) → length (sectionOf input namesNumber) < 2 ^ 32 → NamesAre input ones
+    → NamesAre input others → ones ≡ others
+one-names input ones others short h k =
+    found-same (sym (names-find input ones short h .1) ∙ names-find input others short k .1) .0
+
 -- ---- Well-formed, then accepted
 
 -- An input whose header and lengths earn no fault is accepted with every division of it.
 answer-accepts : (bases : ℕ) (reference input : List ℕ) (divided : BlockDivision) → ReferenceFits bases reference
     → NoneFits (headerFaults input) → NoneFits (lengthFaults input (divided .lengths)) → DividesBlock bases input divided
-    → blockAnswer bases reference input ≡ found divided (blockLength (headerOf input))
-unfolding blockAnswer dnaTrailing any
-answer-accepts bases reference input divided fits header lengthsRight d =
+    → length (sectionOf input namesNumber) < 2 ^ 32 → blockAnswer bases reference input ≡ found divided (blockLength (headerOf input))
+unfolding blockAnswer dnaAnswer dnaTrailing any
+answer-accepts bases reference input divided fits header lengthsRight d short =
     let dna : List ℕ = sectionOf input dnaNumber in
-    checked-none _ _ _ (neither-or _ _ (fits .fits) header)
+    andThen-found _
+    (checked-none _ _ _ (neither-or _ _ (fits .fits) header)
     ∙ andThen-found _ (refusedAs-found (λ n. ofRead 0 9) (lengths-find input (divided .lengths) (d .lengths-are) .1))
     (checked-none _ _ _ lengthsRight
     ∙ andThen-found _ (divides-walk bases (divided .lengths) (sectionOf input nNumber) dna (divided .division) (d .divides))
-    (checked-none _ _ _ (neither-or _ _ (le-ltb (length dna) (length dna) (omega arith)) refl)))
+    (checked-none _ _ _ (neither-or _ _ (le-ltb (length dna) (length dna) (omega arith)) refl))))
+    (andThen-found _ (refusedAs-found (λ n. ofRead 0 40) (names-find input (divided .names) short (d .names-are) .1)) refl)
 
 -- A well-formed block is accepted with every division of it, whatever follows.
 pub block-accepts : (bases : ℕ) (reference block rest : List ℕ) (divided : BlockDivision) → ReferenceFits bases reference
@@ -205,6 +270,7 @@ block-accepts bases reference block rest divided fits wf d =
     (lengthFaults-same block (block ++ rest) (divided .lengths) (back s)
     (subst (λ (l : List ℕ). NoneFits (lengthFaults block l)) (sym lengths) (wf .noLengthFault)))
     (divides-same bases block (block ++ rest) divided (back s) d)
+    (subst (λ (section : List ℕ). length section < 2 ^ 32) (sym (s .sections namesNumber)) (names-short block (wf .bytes)))
     ∙ ap (found divided) (size ∙ sym (wf .exact))
 
 -- ---- Accepted, then well-formed
@@ -233,10 +299,18 @@ pub record Accepted (bases : ℕ) (input : List ℕ) (divided : BlockDivision) (
   pub divides : DividesBlock bases input divided
   pub size : next ≡ blockLength (headerOf input)
 
-pub block-found : (bases : ℕ) (reference input : List ℕ) (divided : BlockDivision) (next : ℕ) → AllBytes input
-    → blockAnswer bases reference input ≡ found divided next → Accepted bases input divided next
-unfolding blockAnswer dnaTrailing any
-block-found bases reference input divided next bytes e =
+-- What an input accepted with 1 to 21 has.
+pub record DnaAccepted (bases : ℕ) (input : List ℕ) (divided : BlockDivision) (next : ℕ) : Type 0 where
+  pub header : NoneFits (headerFaults input)
+  pub lengths : NoneFits (lengthFaults input (divided .lengths))
+  pub lengths-are : LengthsAre input (divided .lengths)
+  pub divides : Divides bases (divided .lengths) (sectionOf input nNumber) (sectionOf input dnaNumber) (divided .division)
+  pub size : next ≡ blockLength (headerOf input)
+
+pub dna-found : (bases : ℕ) (reference input : List ℕ) (divided : BlockDivision) (next : ℕ) → AllBytes input
+    → dnaAnswer bases reference input ≡ found divided next → DnaAccepted bases input divided next
+unfolding dnaAnswer dnaTrailing any
+dna-found bases reference input divided next bytes e =
     let first = checked-found (ofRead 0) _ _ e in
     let header = or-neither (referenceSizeWrong bases reference) _ (first .0) in
     let nSection : List ℕ = sectionOf input nNumber in
@@ -249,17 +323,37 @@ block-found bases reference input divided next bytes e =
     let third = checked-found (ofRead 0) _ _ e₄ in
     let same = found-same (third .1) in
     let left : length dna ≤ last = ltb-false last (length dna) (or-neither (ltb last (length dna)) _ (third .0) .0) in
-    subst (λ (d : BlockDivision). Accepted bases input d next) (same .0)
+    subst (λ (d : BlockDivision). DnaAccepted bases input d next) (same .0)
     (record {
       header = header .1;
       lengths = second .0;
-      divides = record {
-        lengths-are = are;
-        divides =
-            walk-divides bases lengths nSection dna division last (section-bytes input dnaNumber bytes)
-            (groups-counted input lengths are (second .0)) e₃ left;
-      };
+      lengths-are = are;
+      divides =
+          walk-divides bases lengths nSection dna division last (section-bytes input dnaNumber bytes)
+          (groups-counted input lengths are (second .0)) e₃ left;
       size = sym (same .1);
+    })))
+
+pub block-found : (bases : ℕ) (reference input : List ℕ) (divided : BlockDivision) (next : ℕ) → AllBytes input
+    → blockAnswer bases reference input ≡ found divided next → Accepted bases input divided next
+unfolding blockAnswer
+block-found bases reference input divided next bytes e =
+    andThen-parts (dnaAnswer bases reference input) _ e (λ part last e₁ e₂.
+    let dna : DnaAccepted bases input part last = dna-found bases reference input part last bytes e₁ in
+    andThen-parts (refusedAs (λ n. ofRead 0 40) (namesAnswer input)) _ e₂ (λ names over e₃ e₄.
+    let same = found-same e₄ in
+    subst (λ (d : BlockDivision). Accepted bases input d next) (same .0)
+    (record {
+      header = dna .header;
+      lengths = dna .lengths;
+      divides = record {
+        lengths-are = dna .lengths-are;
+        divides = dna .divides;
+        names-are =
+            names-answered input names over (section-bytes input namesNumber bytes)
+            (found-refusedAs (λ n. ofRead 0 40) (namesAnswer input) e₃);
+      };
+      size = sym (same .1) ∙ dna .size;
     })))
 
 -- The block at the start of an input that earns no fault of 2 to 8.

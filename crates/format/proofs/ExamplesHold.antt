@@ -10,6 +10,7 @@ use Rattle.dna.specs.SizesAt.{fixedLengths, lengthsGiven}
 use Rattle.dna.specs.Division.{readEnds}
 use Rattle.dna.proofs.SumsHold.{computed}
 use Rattle.dna.proofs.SumsAnsweredHold.{walking}
+use Rattle.tokens.proofs.ExamplesHold.{writing as naming}
 use Rattle.format.specs.Header.{headerOf, int32Bytes, headerBytes, flagSet, readCount}
 use Rattle.format.specs.Sections.{sectionLengths, sectionStart, sectionLength, sectionOf}
 use Rattle.format.specs.Sections.{blockLength}
@@ -21,9 +22,9 @@ use Rattle.format.specs.Lengths.{dnaSizeWrong, nSectionWrong, lengthFaul
 use Rattle.format.specs.Joined.{blockReads, blockCounts, fileReads, fileCounts}
 use Rattle.format.specs.Outcome.{modulo64}
 use Rattle.format.specs.BlockAnswer.{headerRefused, idAnswer, lengthsAnswer, dnaTrailing}
-use Rattle.format.specs.BlockAnswer.{blockAnswer, blockOutcome, capacityTooSmall}
-use Rattle.format.specs.BlockAnswer.{decodeAnswer, decoded, lettersAfter, endsAfter}
-use Rattle.format.specs.BlockAnswer.{decodedLetters, decodedEnds}
+use Rattle.format.specs.BlockAnswer.{dnaAnswer, namesAnswer, blockAnswer}
+use Rattle.format.specs.BlockAnswer.{blockOutcome, capacityTooSmall}
+use Rattle.format.specs.BlockAnswer.{decodeAnswer, decoded, buffersAfter, decodedBuffers}
 use Rattle.format.specs.FileAnswer.{inFirst, inLater, blocksAnswer, fileAnswer, fileOutcome}
 use Rattle.format.specs.FileAnswer.{validated}
 use Rattle.format.specs.RuleEntries.{fillerCount, gapEntries, entriesOfGaps, differsAt}
@@ -37,12 +38,13 @@ use Rattle.format.specs.RuleBlock.{writtenNSection, storedFrom, allEqual
 use Rattle.format.specs.RuleBlock.{headerWith, writtenHeader, writtenBlock, ruleBlock}
 use Rattle.format.specs.EncodeAnswer.{readsOfInput, candidatesOf, blockOf}
 use Rattle.format.specs.Examples.{fifthRow, blockWith, listingBlock, leftOverBlock}
-use Rattle.format.specs.Examples.{listingDivided, ListingRight, longReference, shifted}
+use Rattle.format.specs.Examples.{listingDivided, smallBuffers, ListingRight}
+use Rattle.format.specs.Examples.{longReference, shifted}
 use Rattle.format.specs.Examples.{turnedRead, placeAt, sevenReads, sevenBlock, RuleRight}
 
 -- All that a block's answer computes with: to unfold this is to unfold each.
 unfoldable answering : Unit {0}
-unfolding walking total signed nonNegative pasted readEnds fixedLengths lengthsGiven headerOf flagSet readCount sectionLengths sectionStart sectionLength sectionOf blockLength signedBelow signedOutside headerTruncated magicWrong versionUnsupported headerLengthTooSmall flagUnsupported readCountOutOfRange sectionsTruncated tableFaults headerFaults dnaSizeWrong nSectionWrong lengthFaults blockReads blockCounts fileReads fileCounts modulo64 headerRefused idAnswer lengthsAnswer dnaTrailing blockAnswer blockOutcome capacityTooSmall decodeAnswer decoded lettersAfter endsAfter decodedLetters decodedEnds inFirst inLater blocksAnswer fileAnswer fileOutcome validated flatten fifthRow blockWith listingBlock leftOverBlock listingDivided
+unfolding walking total signed nonNegative pasted readEnds fixedLengths lengthsGiven headerOf flagSet readCount sectionLengths sectionStart sectionLength sectionOf blockLength signedBelow signedOutside headerTruncated magicWrong versionUnsupported headerLengthTooSmall flagUnsupported readCountOutOfRange sectionsTruncated tableFaults headerFaults dnaSizeWrong nSectionWrong lengthFaults blockReads blockCounts fileReads fileCounts modulo64 headerRefused idAnswer lengthsAnswer dnaTrailing dnaAnswer namesAnswer blockAnswer blockOutcome capacityTooSmall decodeAnswer decoded buffersAfter decodedBuffers inFirst inLater blocksAnswer fileAnswer fileOutcome validated flatten fifthRow blockWith listingBlock leftOverBlock listingDivided smallBuffers
 answering = tt
 
 -- 01's listing block is well-formed and decodes as its listing says.
@@ -82,13 +84,13 @@ listing-right =
               tt,
             );
           };
+          names-are = refl;
         };
         noLengthFault = refl;
       };
       id = refl;
       outcome = refl;
-      letters = refl;
-      ends = refl;
+      buffers = refl;
       one-block = refl;
       two-blocks = refl;
       file-reads = refl;
@@ -97,7 +99,7 @@ listing-right =
 
 -- All that the fixed rule computes with.
 unfoldable writing : Unit {0}
-unfolding computed keep placesWhere stepsFrom total flatten nOffsetsOf fillerCount gapEntries entriesOfGaps differsAt gapsTo gapsOf padded withoutN alignedCount expectedAt candidateGaps candidateEntries clippedCodes placeUsed storedPosition stepFits fieldFor alignedFields choiceFor isPerfect writtenAs written writtenFrom codeOfLetter writtenGroup writtenDivision writtenNSection storedFrom allEqual writtenSizes int32Bytes headerBytes headerWith writtenHeader writtenBlock ruleBlock readsOfInput candidatesOf blockOf longReference shifted turnedRead placeAt sevenReads sevenBlock
+unfolding computed naming keep placesWhere stepsFrom total flatten nOffsetsOf fillerCount gapEntries entriesOfGaps differsAt gapsTo gapsOf padded withoutN alignedCount expectedAt candidateGaps candidateEntries clippedCodes placeUsed storedPosition stepFits fieldFor alignedFields choiceFor isPerfect writtenAs written writtenFrom codeOfLetter writtenGroup writtenDivision writtenNSection storedFrom allEqual writtenSizes int32Bytes headerBytes headerWith writtenHeader writtenBlock ruleBlock readsOfInput candidatesOf blockOf longReference shifted turnedRead placeAt sevenReads sevenBlock
 writing = tt
 
 -- The fixed rule writes 31 entries, puts 32 into a raw record, fills on the strand of the read, and makes this block of

@@ -10,8 +10,8 @@ use Reads.{file-reads}
 
 -- One claim about every reference, file and list of blocks. Judging accepts exactly the files joined from
 -- well-formed blocks; that list is unique; the answer is its number and the sums modulo 2 ^ 64, whatever divisions
--- of the blocks are taken; the reads are those that decoding gives; a prefix of a file has a prefix of its blocks,
--- cuts and reads; and inside a block the division of the DNA section is unique.
+-- of the blocks are taken; the reads and names are those that decoding gives; a prefix of a file has a prefix of its
+-- blocks, cuts, reads and names; and inside a block the division of the DNA section is unique.
 pub demand-3 : Demand3
 demand-3 bases reference fits =
     record {
@@ -25,5 +25,5 @@ demand-3 bases reference fits =
       answer = λ file blocks ds wfs j d. file-answer bases reference file blocks ds fits wfs j d;
       reads = λ blocks ds wfs d. file-reads bases reference fits blocks ds wfs d;
       prefixes = λ front whole bytes zf zw begins bs cs wfs wgs j k. prefix bases reference front whole bs cs wfs wgs j k begins;
-      one-division = λ block one other wf d e. one-divided bases block one other d e;
+      one-division = λ block one other wf d e. one-divided bases block one other wf d e;
     }

@@ -1,5 +1,5 @@
--- Demand 2, reading: a well-formed block gives exactly the letters, lengths and counts defined, and no other block
--- is accepted. Assumes nothing.
+-- Demand 2, reading: a well-formed block gives exactly the letters, lengths, names and counts defined, and no other
+-- block is accepted. Assumes nothing.
 pub mod Answers
 use mathlib.Core.Path.{_≡_, sym, ap, subst}
 use Prim.Native.Nat.{ℕ}
@@ -10,22 +10,22 @@ use Rattle.format.proofs.BlockLaws.{first-block, block-found}
 use Answers.{decodes, block-counts, Decoded, decoded-zero, validated-zero}
 
 -- Whatever follows a block, decoding and judging accept it exactly if it is well-formed (and there is room); then
--- every division of it gives the letters, the ends and the counts of the answer.
+-- every division of it gives the letters, the ends, the names and the counts of the answer.
 pub demand-2-reading : Demand2Reading
 demand-2-reading bases reference fits =
     record {
-      accepted = λ input letters ends bytes. (
+      accepted = λ input buffers bytes. (
         λ zero′.
-            let d : Decoded bases reference input letters ends = decoded-zero bases reference input letters ends zero′ in
+            let d : Decoded bases reference input buffers = decoded-zero bases reference input buffers zero′ in
             let f = first-block bases input (d .divided) (d .next) bytes
             (block-found bases reference input (d .divided) (d .next) bytes (d .answered)) in
             record { block = f .block; rest = f .rest; begins = f .begins; wellFormed = f .wellFormed; room = rw (f .is) (d .room) },
         λ r.
-            subst (λ (x : List ℕ). decoded bases reference x letters ends .number ≡ 0) (sym (r .begins))
+            subst (λ (x : List ℕ). decoded bases reference x buffers .number ≡ 0) (sym (r .begins))
             (ap (λ o. o .number)
-            (decodes bases reference (r .block) (r .rest) letters ends (r .wellFormed .divided) fits (r .wellFormed) (r .wellFormed .divides) (r .room) .outcome)),
+            (decodes bases reference (r .block) (r .rest) buffers (r .wellFormed .divided) fits (r .wellFormed) (r .wellFormed .divides) (r .room) .outcome)),
       );
-      gives = λ block rest letters ends divided wf d room. decodes bases reference block rest letters ends divided fits wf d room;
+      gives = λ block rest buffers divided wf d room. decodes bases reference block rest buffers divided fits wf d room;
       validates = λ input bytes. (
         λ zero′.
             let d = validated-zero bases reference input zero′ in

@@ -1,5 +1,6 @@
 -- Demand 1 over the answers: a refused call changes nothing and counts nothing. Assumes nothing.
 mod Calls
+mod Stages
 mod Given
 use Rattle.format.specs.Demands.{Demand1}
 use Calls.{decode-refuses, block-refuses, file-refuses, encode-refuses}

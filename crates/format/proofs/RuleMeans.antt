@@ -25,10 +25,21 @@ use Rattle.format.specs.RuleBlock.{writtenHeader}
 use Rattle.format.specs.RuleMeaning.{WriterMeans, PlaceHolds, ChoiceHolds, SizesHold}
 use Rattle.format.specs.RuleMeaning.{FlagsHold, WrittenHolds, RuleMeans}
 use Rattle.format.specs.EncodeAnswer.{EncodeInput, readCountTooLarge, candidateCountWrong}
-use Rattle.format.specs.EncodeAnswer.{readEndsInvalid, letterInvalid}
+use Rattle.format.specs.EncodeAnswer.{readEndsInvalid, letterInvalid, namesWrong}
+use Rattle.tokens.specs.LentNames.{LentNames}
+use Rattle.tokens.specs.WrittenNames.{namesLent}
+use Rattle.tokens.proofs.NamesLent.{names-lent, lent-names}
 use Rattle.format.specs.RuleEntries.{differsAt, fillerCount}
 use Rattle.format.proofs.TestsMean.{equal-test}
 use Rattle.format.proofs.KindMeans.{kind}
+
+names-right : (input : EncodeInput) → (namesWrong input ≡ false)
+    ↔ ((names : List (List ℕ)) × LentNames (length (input .ends)) (input .names) (input .nameEnds) names)
+unfolding namesWrong
+names-right input = (
+  λ e. (namesLent (input .names) (input .nameEnds), lent-names (length (input .ends)) (input .names) (input .nameEnds) e),
+  λ h. names-lent (length (input .ends)) (input .names) (input .nameEnds) (h .0) (h .1) .0,
+)
 
 -- ---- The choice
 
@@ -150,10 +161,10 @@ unfolding allEqual
 holds-equal [] h = absurd (not-suc-le-zero (h .0))
 holds-equal (size ∷ rest) h = ap not (other-none size rest (h .1 .1))
 
-flags : (id time dnaSize : ℕ) (sizes nSection lengths : List ℕ)
-    → FlagsHold id time dnaSize sizes nSection lengths
+flags : (id time dnaSize namesSize : ℕ) (sizes nSection lengths : List ℕ)
+    → FlagsHold id time dnaSize namesSize sizes nSection lengths
 unfolding writtenHeader headerWith writtenFields
-flags id time dnaSize sizes nSection lengths =
+flags id time dnaSize namesSize sizes nSection lengths =
     record {
       equal = (equal-holds lengths, holds-equal lengths);
       one-length = λ t. (cond-yes _ t refl, ap pos (cond-yes _ t refl));
@@ -247,6 +258,7 @@ writer input =
             (equal-test _ _ .1 (h .last)),
       );
       thirty-three = letters (input .letters);
+      forty-one = names-right input;
     }
 
 -- The writer's tests and the fixed rule say what 01 says.
@@ -276,5 +288,5 @@ rule-means =
       more = λ gap large. omega arith;
       ends = λ codes candidate few.
           ap (λ (from : ℕ). map withoutN (take (candidate .left) codes ++ drop from codes)) (let z : candidate .left + (length codes - (candidate .left + candidate .right)) ≡ length codes - candidate .right = omega arith in z);
-      given = λ id time dnaSize sizes nSection lengths. (refl, refl);
+      given = λ id time dnaSize namesSize sizes nSection lengths. (refl, refl);
     }

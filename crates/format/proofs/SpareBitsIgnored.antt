@@ -4,7 +4,7 @@ pub mod Reading
 pub mod Writing
 use Rattle.format.specs.SpareBits.{SpareBitsIgnored}
 use Rattle.format.proofs.SpareBitsIgnored.Reading.{validatedBlock-same, decoded-same}
-use Rattle.format.proofs.SpareBitsIgnored.Reading.{decodedLetters-same, decodedEnds-same}
+use Rattle.format.proofs.SpareBitsIgnored.Reading.{decodedBuffers-same}
 use Rattle.format.proofs.SpareBitsIgnored.Reading.{validated-same}
 use Rattle.format.proofs.SpareBitsIgnored.Writing.{encoded-same, encodedBuffer-same}
 
@@ -12,10 +12,9 @@ pub spare-bits-ignored : SpareBitsIgnored
 spare-bits-ignored bases one other sizes same =
     record {
       validateBlock = validatedBlock-same bases one other sizes same;
-      decode = λ input letters ends. (
-        decoded-same bases one other sizes same input letters ends,
-        decodedLetters-same bases one other sizes same input letters ends,
-        decodedEnds-same bases one other sizes same input letters ends,
+      decode = λ input buffers. (
+        decoded-same bases one other sizes same input buffers,
+        decodedBuffers-same bases one other sizes same input buffers,
       );
       validate = validated-same bases one other sizes same;
       encode = λ input out. (

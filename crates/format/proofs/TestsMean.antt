@@ -1,9 +1,11 @@
 -- Each test of reading fails exactly where its sentence holds, and the calls on sections answer what
 -- stands there. Assumes nothing.
-use mathlib.Core.Path.{_≡_, refl, sym, ap, _∙_}
+use mathlib.Core.Path.{_≡_, refl, sym, ap, subst, _∙_}
 use Prim.Native.Nat.{ℕ, zero, suc, _+_, _-_, _/_, _%_, _^_, _≤_, _<_}
 use native.Mathlib.Omega.{arith}
-use mathlib.Core.Bool.{true, false, not}
+use mathlib.Core.Bool.{Bool, true, false, not}
+use Rattle.format.specs.BlockNames.{NamesAre, NamesBy}
+use Rattle.format.specs.Meaning.{NamesMean}
 use mathlib.Core.Logic.{_↔_}
 use mathlib.Core.List.{List, [], _∷_}
 use lib.ListN.{length, take}
@@ -183,6 +185,10 @@ header-means input =
         λ e. omega (arith, eqb-true (le 4 input 42 / 1 % 2) 1 e),
         λ e. eq-eqb (le 4 input 42 / 1 % 2) 1 (omega (arith, e)),
       );
+      names-stored = (
+        λ e. eqb-true (le 4 input 42 / 0x8 % 2) 1 e,
+        λ e. eq-eqb (le 4 input 42 / 0x8 % 2) 1 e,
+      );
     }
 
 -- What a header that is not refused says of its signed fields.
@@ -285,6 +291,16 @@ span-at input none number few some =
     rw (accepted input none, ne-eqb (sectionLength (headerOf input) number) 0 filled)
     (start-is input (le 4 input 2) number (accepted-signed input none .header) few)
 
+names-mean : (input : List ℕ) (names : List (List ℕ)) → NamesMean input names
+unfolding flagSet headerOf
+names-mean input names =
+    let by : (t : Bool) → eqb (le 4 input 42 / 0x8 % 2) 1 ≡ t → NamesAre input names ≡ NamesBy t (readCount (headerOf input)) (sectionOf input 1) names
+    = λ t e. ap (λ (b : Bool). NamesBy b (readCount (headerOf input)) (sectionOf input 1) names) e in
+    record {
+      stored = λ e. let p = by true (eq-eqb (le 4 input 42 / 0x8 % 2) 1 e) in (λ h. subst (λ (T : Type 0). T) p h, λ h. subst (λ (T : Type 0). T) (sym p) h);
+      unread = λ e. let p = by false (ne-eqb (le 4 input 42 / 0x8 % 2) 1 (λ f. absurd (omega (arith, e, f)))) in (λ h. subst (λ (T : Type 0). T) p h, λ h. subst (λ (T : Type 0). T) (sym p) h);
+    }
+
 asked : (input : List ℕ) → AskedHolds input
 unfolding idAnswer lengthAnswer sectionAnswer headerOf
 asked input =
@@ -311,5 +327,6 @@ tests-mean =
       readLength = length-means;
       rawSize = size-means;
       nSection = n-means;
+      names = names-mean;
       asked = asked;
     }

@@ -68,10 +68,11 @@ sizes-bytes lengths =
 -- ---- The header
 
 -- What is written into the header fits its fields.
-pub record HeaderGiven (id time : ℕ) (dna sizes ns lengths : List ℕ) : Type 0 where
+pub record HeaderGiven (id time : ℕ) (dna names sizes ns lengths : List ℕ) : Type 0 where
   pub id-fits : id < 2 ^ 64
   pub time-fits : time < 2 ^ 64
   pub dna-fits : length dna < 2 ^ 32
+  pub names-fit : length names < 2 ^ 32
   pub sizes-fit : length sizes < 2 ^ 32
   pub ns-fit : length ns < 2 ^ 32
   pub few : length lengths ≤ 50000
@@ -85,18 +86,18 @@ l-read-small (size ∷ lengths) valid =
     let first : size ≤ 100000 = ltb-false 100000 size (or-neither (eqb size 0) _ (or-neither (lengthInvalid size) _ valid .0) .1) in
     by-test (not (any (λ other. not (eqb other size)) lengths)) (λ t. rw t first) (λ t. rw t (omega arith))
 
-flags-small : (lengths : List ℕ) → cond (allEqual lengths) 0x5 0x4 < 256 ^ 4
+flags-small : (lengths : List ℕ) → cond (allEqual lengths) 0x9 0x8 < 256 ^ 4
 flags-small lengths = by-test (allEqual lengths) (λ t. rw t (omega arith)) (λ t. rw t (omega arith))
 
-header-fits : (id time : ℕ) (dna sizes ns lengths : List ℕ) → HeaderGiven id time dna sizes ns lengths
-    → HeaderFits (writtenHeader id time (length dna) sizes ns lengths)
+header-fits : (id time : ℕ) (dna names sizes ns lengths : List ℕ) → HeaderGiven id time dna names sizes ns lengths
+    → HeaderFits (writtenHeader id time (length dna) (length names) sizes ns lengths)
 unfolding writtenHeader
-header-fits id time dna sizes ns lengths g =
+header-fits id time dna names sizes ns lengths g =
     record {
       magic = omega arith;
       «l_header» = omega arith;
       «l_dna» = omega (arith, g .dna-fits);
-      «l_names» = omega arith;
+      «l_names» = omega (arith, g .names-fit);
       «l_qualN» = omega arith;
       «l_qual» = omega arith;
       «l_size» = omega (arith, g .sizes-fit);
@@ -125,52 +126,58 @@ header-fits id time dna sizes ns lengths g =
       «checksum_comp» = omega arith;
     }
 
-header-length : (id time size : ℕ) (sizes ns lengths : List ℕ) → length (headerBytes (writtenHeader id time size sizes ns lengths)) ≡ 121
+header-length : (id time size namesSize : ℕ) (sizes ns lengths : List ℕ)
+    → length (headerBytes (writtenHeader id time size namesSize sizes ns lengths)) ≡ 121
 unfolding leBytes build int32Bytes headerBytes writtenHeader flatten
-header-length id time size sizes ns lengths = refl
+header-length id time size namesSize sizes ns lengths = refl
 
 -- ---- The block
 
 -- The block of these parts.
-unfoldable pub blockFrom : (id time : ℕ) (dna sizes ns lengths : List ℕ) → List ℕ
-blockFrom id time dna sizes ns lengths =
-    headerBytes (writtenHeader id time (length dna) sizes ns lengths) ++ (dna ++ (sizes ++ ns))
+unfoldable pub blockFrom : (id time : ℕ) (dna names sizes ns lengths : List ℕ) → List ℕ
+blockFrom id time dna names sizes ns lengths =
+    headerBytes (writtenHeader id time (length dna) (length names) sizes ns lengths) ++ (dna ++ (names ++ (sizes ++ ns)))
 
 -- What is read from it.
-pub record BlockParts (id time : ℕ) (dna sizes ns lengths : List ℕ) : Type 0 where
-  pub header : headerOf (blockFrom id time dna sizes ns lengths) ≡ writtenHeader id time (length dna) sizes ns lengths
-  pub table : 121 ≤ length (blockFrom id time dna sizes ns lengths)
-  pub exact : length (blockFrom id time dna sizes ns lengths) ≡ blockLength (headerOf (blockFrom id time dna sizes ns lengths))
-  pub section-dna : sectionOf (blockFrom id time dna sizes ns lengths) 0 ≡ dna
-  pub section-sizes : sectionOf (blockFrom id time dna sizes ns lengths) 4 ≡ sizes
-  pub section-ns : sectionOf (blockFrom id time dna sizes ns lengths) 5 ≡ ns
+pub record BlockParts (id time : ℕ) (dna names sizes ns lengths : List ℕ) : Type 0 where
+  pub header : headerOf (blockFrom id time dna names sizes ns lengths) ≡ writtenHeader id time (length dna) (length names) sizes ns lengths
+  pub table : 121 ≤ length (blockFrom id time dna names sizes ns lengths)
+  pub exact : length (blockFrom id time dna names sizes ns lengths) ≡ blockLength (headerOf (blockFrom id time dna names sizes ns lengths))
+  pub section-dna : sectionOf (blockFrom id time dna names sizes ns lengths) 0 ≡ dna
+  pub section-names : sectionOf (blockFrom id time dna names sizes ns lengths) 1 ≡ names
+  pub section-sizes : sectionOf (blockFrom id time dna names sizes ns lengths) 4 ≡ sizes
+  pub section-ns : sectionOf (blockFrom id time dna names sizes ns lengths) 5 ≡ ns
 
-pub block-parts : (id time : ℕ) (dna sizes ns lengths : List ℕ) → HeaderGiven id time dna sizes ns lengths
-    → BlockParts id time dna sizes ns lengths
+pub block-parts : (id time : ℕ) (dna names sizes ns lengths : List ℕ) → HeaderGiven id time dna names sizes ns lengths
+    → BlockParts id time dna names sizes ns lengths
 unfolding blockFrom sectionOf blockLength sectionStart sectionLength sectionLengths total writtenHeader nonNegative
-block-parts id time dna sizes ns lengths g =
-    let header : Header = writtenHeader id time (length dna) sizes ns lengths in
+block-parts id time dna names sizes ns lengths g =
+    let header : Header = writtenHeader id time (length dna) (length names) sizes ns lengths in
     let hb : List ℕ = headerBytes header in
-    let block : List ℕ = hb ++ (dna ++ (sizes ++ ns)) in
-    let head : headerOf block ≡ header = headerOf-headerBytes header (dna ++ (sizes ++ ns)) (header-fits id time dna sizes ns lengths g) in
-    let long : length hb ≡ 121 = header-length id time (length dna) sizes ns lengths in
-    let size : length block ≡ 121 + (length dna + (length sizes + length ns)) =
-    length-append hb (dna ++ (sizes ++ ns))
-    ∙ omega (arith, length-append dna (sizes ++ ns), length-append sizes ns) in
-    let a₁ = at-right hb (dna ++ (sizes ++ ns)) (at-self block) in
-    let a₂ = at-right dna (sizes ++ ns) a₁ in
-    let a₃ = at-right sizes ns a₂ in
+    let block : List ℕ = hb ++ (dna ++ (names ++ (sizes ++ ns))) in
+    let head : headerOf block ≡ header = headerOf-headerBytes header (dna ++ (names ++ (sizes ++ ns))) (header-fits id time dna names sizes ns lengths g) in
+    let long : length hb ≡ 121 = header-length id time (length dna) (length names) sizes ns lengths in
+    let size : length block ≡ 121 + (length dna + (length names + (length sizes + length ns))) =
+    length-append hb (dna ++ (names ++ (sizes ++ ns)))
+    ∙ omega (arith, length-append dna (names ++ (sizes ++ ns)), length-append names (sizes ++ ns), length-append sizes ns) in
+    let a₁ = at-right hb (dna ++ (names ++ (sizes ++ ns))) (at-self block) in
+    let a₂ = at-right dna (names ++ (sizes ++ ns)) a₁ in
+    let a₃ = at-right names (sizes ++ ns) a₂ in
+    let a₄ = at-right sizes ns a₃ in
     record {
       header = head;
       table = omega arith;
-      exact = size ∙ (let n : 121 + (length dna + (length sizes + length ns)) ≡ blockLength header = omega arith in n) ∙ ap blockLength (sym head);
+      exact = size ∙ (let n : 121 + (length dna + (length names + (length sizes + length ns))) ≡ blockLength header = omega arith in n) ∙ ap blockLength (sym head);
       section-dna =
           ap (λ (h : Header). part block (sectionStart h 0) (sectionLength h 0)) head
-          ∙ at-part dna (at-to _ 121 (omega arith) (at-left dna (sizes ++ ns) a₁));
+          ∙ at-part dna (at-to _ 121 (omega arith) (at-left dna (names ++ (sizes ++ ns)) a₁));
+      section-names =
+          ap (λ (h : Header). part block (sectionStart h 1) (sectionLength h 1)) head
+          ∙ at-part names (at-to _ (121 + (length dna + 0)) (omega arith) (at-left names (sizes ++ ns) a₂));
       section-sizes =
           ap (λ (h : Header). part block (sectionStart h 4) (sectionLength h 4)) head
-          ∙ at-part sizes (at-to _ (121 + (length dna + 0)) (omega arith) (at-left sizes ns a₂));
+          ∙ at-part sizes (at-to _ (121 + (length dna + (length names + 0))) (omega arith) (at-left sizes ns a₃));
       section-ns =
           ap (λ (h : Header). part block (sectionStart h 5) (sectionLength h 5)) head
-          ∙ at-part ns (at-to _ (121 + (length dna + (0 + (0 + (0 + (length sizes + 0)))))) (omega arith) a₃);
+          ∙ at-part ns (at-to _ (121 + (length dna + (length names + (0 + (0 + (length sizes + 0)))))) (omega arith) a₄);
     }

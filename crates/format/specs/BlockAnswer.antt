@@ -1,13 +1,13 @@
 -- What the calls on one block answer (level 2; 01, Numbers of refusal: smallest step first): stage
--- after stage, the reference, the header, the lengths, the N section, the DNA section, and for
--- decoding the room. A stage gives the first fault of its list that fits, or hands on. The block
--- stands at the input's start; what follows it is not looked at.
+-- after stage, the reference, the header, the lengths, the N section, the DNA section, the names,
+-- and for decoding the room. A stage gives the first fault of its list that fits, or hands on. The
+-- block stands at the input's start; what follows it is not looked at.
 use Prim.Native.Nat.{ℕ}
 use mathlib.Core.Bool.{Bool, cond, _||_}
-use mathlib.Core.List.{List, [], _∷_, flatten}
+use mathlib.Core.List.{List, [], _∷_, map, flatten}
 use lib.ListN.{length}
 use lib.Dec.{ltb, eqb}
-use Rattle.base.specs.Lists.{any}
+use Rattle.base.specs.Lists.{any, placesFrom}
 use Rattle.base.specs.Numbers.{nonNegative}
 use Rattle.base.specs.Faults.{fault}
 use Rattle.base.specs.Paste.{pasted}
@@ -16,9 +16,10 @@ use Rattle.dna.specs.Reference.{referenceSizeWrong}
 use Rattle.dna.specs.SizesAt.{lengthsGiven}
 use Rattle.dna.specs.Division.{readEnds}
 use Rattle.dna.specs.Walk.{ofRead, Walk, refusedAt, sectionWalk}
-use Rattle.format.specs.Header.{headerOf, flagSet, sameLengthFlag, readCount}
-use Rattle.format.specs.Sections.{dnaNumber, sizeNumber, nNumber, sectionStart, sectionLength}
-use Rattle.format.specs.Sections.{sectionOf, blockLength}
+use Rattle.tokens.specs.NamesAt.{namesGiven}
+use Rattle.format.specs.Header.{headerOf, flagSet, sameLengthFlag, namesFlag, readCount}
+use Rattle.format.specs.Sections.{dnaNumber, namesNumber, sizeNumber, nNumber}
+use Rattle.format.specs.Sections.{sectionStart, sectionLength, sectionOf, blockLength}
 use Rattle.format.specs.HeaderFaults.{headerFaults}
 use Rattle.format.specs.Lengths.{lengthFaults}
 use Rattle.format.specs.WellFormed.{BlockDivision}
@@ -71,10 +72,10 @@ lengthsAnswer input =
 unfoldable pub dnaTrailing : (input : List ℕ) (next : ℕ) → Bool
 dnaTrailing input next = ltb next (length (sectionOf input dnaNumber))
 
--- A block is judged with 1 to 21: its lengths and its division, and the place after it. Whatever is
--- wrong with the lengths is 9.
-unfoldable pub blockAnswer : (bases : ℕ) (reference input : List ℕ) → Walk BlockDivision
-blockAnswer bases reference input =
+-- A block is judged with 1 to 21: its lengths and its division, names left out, and the place after
+-- it. Whatever is wrong with the lengths is 9.
+unfoldable pub dnaAnswer : (bases : ℕ) (reference input : List ℕ) → Walk BlockDivision
+dnaAnswer bases reference input =
     checked (refusedAt 0) (fault 1 (referenceSizeWrong bases reference) ∷ headerFaults input)
     (andThen (refusedAs (λ number. ofRead 0 9) (lengthsAnswer input)) (λ lengths end.
     checked (refusedAt 0) (lengthFaults input lengths)
@@ -82,8 +83,26 @@ blockAnswer bases reference input =
     (sectionWalk bases lengths (sectionOf input nNumber) (sectionOf input dnaNumber))
     (λ division next.
     checked (refusedAt 0) (fault 21 (dnaTrailing input next) ∷ [])
-    (found (record { lengths = lengths; division = division })
+    (found (record { lengths = lengths; division = division; names = [] })
     (blockLength (headerOf input)))))))
+
+-- The names of a block; none where they stay unread.
+unfoldable pub namesAnswer : (input : List ℕ) → Scan (List (List ℕ))
+namesAnswer input =
+    cond (flagSet (headerOf input .flags) namesFlag)
+    (namesGiven (readCount (headerOf input)) (sectionOf input namesNumber))
+    (found [] 0)
+
+abbrev pub withNames : (divided : BlockDivision) (names : List (List ℕ)) → BlockDivision
+withNames divided names =
+    record { lengths = divided .lengths; division = divided .division; names = names }
+
+-- And then with 40: its names too. Whatever is wrong with them is 40.
+unfoldable pub blockAnswer : (bases : ℕ) (reference input : List ℕ) → Walk BlockDivision
+blockAnswer bases reference input =
+    andThen (dnaAnswer bases reference input) (λ divided next.
+    andThen (refusedAs (λ number. ofRead 0 40) (namesAnswer input)) (λ names end.
+    found (withNames divided names) next))
 
 -- The outcome of an answer on a block.
 unfoldable pub blockOutcome : (reference : List ℕ) (bases : ℕ) (answer : Walk BlockDivision)
@@ -99,43 +118,55 @@ validatedBlock bases reference input =
 
 -- ---- Decoding
 
--- 22: the letters or the ends do not fit the lent buffers.
-unfoldable pub capacityTooSmall : (reference : List ℕ) (bases letterRoom endRoom : ℕ)
+-- The buffers that a caller lends: for the letters of the reads and the end of each, and for the
+-- names and the end of each.
+pub record Buffers : Type 0 where
+  pub letters : List ℕ
+  pub ends : List ℕ
+  pub names : List ℕ
+  pub nameEnds : List ℕ
+
+abbrev pub buffersOf : (letters ends names nameEnds : List ℕ) → Buffers
+buffersOf letters ends names nameEnds =
+    record { letters = letters; ends = ends; names = names; nameEnds = nameEnds }
+
+-- 22: the letters, the ends, the names or their ends do not fit the lent buffers.
+unfoldable pub capacityTooSmall : (reference : List ℕ) (bases : ℕ) (buffers : Buffers)
     (divided : BlockDivision) → Bool
-capacityTooSmall reference bases letterRoom endRoom divided =
-    ltb letterRoom (length (flatten (blockReads reference bases divided)))
-    || ltb endRoom (length (divided .lengths))
+capacityTooSmall reference bases buffers divided =
+    ltb (length (buffers .letters)) (length (flatten (blockReads reference bases divided)))
+    || (ltb (length (buffers .ends)) (length (divided .lengths))
+    || (ltb (length (buffers .names)) (length (flatten (divided .names)))
+    || ltb (length (buffers .nameEnds)) (length (divided .names))))
 
 -- Decoding a block into lent buffers: judged, then 22.
-unfoldable pub decodeAnswer : (bases : ℕ) (reference input letters ends : List ℕ)
+unfoldable pub decodeAnswer : (bases : ℕ) (reference input : List ℕ) (buffers : Buffers)
     → Walk BlockDivision
-decodeAnswer bases reference input letters ends =
+decodeAnswer bases reference input buffers =
     andThen (blockAnswer bases reference input) (λ divided next.
-    checked (refusedAt 0)
-    (fault 22 (capacityTooSmall reference bases (length letters) (length ends) divided) ∷ [])
+    checked (refusedAt 0) (fault 22 (capacityTooSmall reference bases buffers divided) ∷ [])
     (found divided next))
 
-unfoldable pub decoded : (bases : ℕ) (reference input letters ends : List ℕ) → Outcome
-decoded bases reference input letters ends =
-    blockOutcome reference bases (decodeAnswer bases reference input letters ends)
+unfoldable pub decoded : (bases : ℕ) (reference input : List ℕ) (buffers : Buffers) → Outcome
+decoded bases reference input buffers =
+    blockOutcome reference bases (decodeAnswer bases reference input buffers)
 
--- The letters buffer after an answer: the letters of the reads one after the other, or as it was.
-unfoldable pub lettersAfter : (reference : List ℕ) (bases : ℕ) (answer : Walk BlockDivision)
-    (letters : List ℕ) → List ℕ
-lettersAfter reference bases (found divided next) letters =
-    pasted letters 0 (flatten (blockReads reference bases divided))
-lettersAfter reference bases (refused why) letters = letters
+-- The buffers after an answer: the letters of the reads one after the other, the end of each,
+-- counted in letters, the names one after the other, the end of each, counted in bytes, and what
+-- lay past them; or all as they were.
+unfoldable pub buffersAfter : (reference : List ℕ) (bases : ℕ) (answer : Walk BlockDivision)
+    (buffers : Buffers) → Buffers
+buffersAfter reference bases (found divided next) buffers =
+    record {
+      letters = pasted (buffers .letters) 0 (flatten (blockReads reference bases divided));
+      ends = pasted (buffers .ends) 0 (readEnds (divided .lengths));
+      names = pasted (buffers .names) 0 (flatten (divided .names));
+      nameEnds = pasted (buffers .nameEnds) 0 (placesFrom 0 (map length (divided .names)));
+    }
+buffersAfter reference bases (refused why) buffers = buffers
 
--- The ends buffer after an answer: the end of each read, counted in letters, or as it was.
-unfoldable pub endsAfter : (answer : Walk BlockDivision) (ends : List ℕ) → List ℕ
-endsAfter (found divided next) ends = pasted ends 0 (readEnds (divided .lengths))
-endsAfter (refused why) ends = ends
-
--- The letters buffer and the ends buffer after decoding.
-unfoldable pub decodedLetters : (bases : ℕ) (reference input letters ends : List ℕ) → List ℕ
-decodedLetters bases reference input letters ends =
-    lettersAfter reference bases (decodeAnswer bases reference input letters ends) letters
-
-unfoldable pub decodedEnds : (bases : ℕ) (reference input letters ends : List ℕ) → List ℕ
-decodedEnds bases reference input letters ends =
-    endsAfter (decodeAnswer bases reference input letters ends) ends
+-- The buffers after decoding.
+unfoldable pub decodedBuffers : (bases : ℕ) (reference input : List ℕ) (buffers : Buffers)
+    → Buffers
+decodedBuffers bases reference input buffers =
+    buffersAfter reference bases (decodeAnswer bases reference input buffers) buffers

@@ -2,8 +2,9 @@
 -- 1: every call ends and harms nothing; a fault is refused by its number and read index, the first
 -- fault deciding, and every lent buffer then holds what it held before. (That a call ends and
 -- harms nothing the prover shows of each function.)
--- 2: a well-formed block gives exactly the letters, lengths and counts defined, and no other block
--- is accepted; every list of reads within the limits is written by the fixed rule and reads back.
+-- 2: a well-formed block gives exactly the letters, lengths, counts and names defined, and no other
+-- block is accepted; every list of reads and names within the limits is written by the fixed rule
+-- and reads back.
 -- 3: one claim over every reference, file and list of blocks.
 -- The proofs stand in proofs/. Each premise is 01's, or says what a lent type can hold.
 use Prim.Native.Nat.{ℕ, _%_, _≤_, _<_, _^_}
@@ -23,6 +24,8 @@ use Rattle.dna.specs.Counts.{Counted, zeroCounts, recordCounts}
 use Rattle.dna.specs.Division.{Division, SameDivision, Divides, divisionBytes, readsOf, readEnds}
 use Rattle.dna.specs.Rules.{totals, exact}
 use Rattle.dna.specs.FirstFault.{DnaRefused}
+use Rattle.tokens.specs.LentNames.{LentNames}
+use Rattle.tokens.specs.WrittenNames.{writtenNames}
 use Rattle.format.specs.Header.{headerOf, readCount}
 use Rattle.format.specs.Sections.{dnaNumber, nNumber, sectionOf}
 use Rattle.format.specs.HeaderFaults.{headerTruncated, magicWrong}
@@ -31,18 +34,20 @@ use Rattle.format.specs.HeaderFaults.{flagUnsupported, readCountOutOfRan
 use Rattle.format.specs.HeaderFaults.{headerFaults}
 use Rattle.format.specs.Lengths.{LengthsAre, LengthsInvalid, dnaSizeWrong, nSectionWrong}
 use Rattle.format.specs.Lengths.{lengthFaults}
+use Rattle.format.specs.BlockNames.{NamesInvalid}
 use Rattle.format.specs.WellFormed.{BlockDivision, DividesBlock, WellFormed}
 use Rattle.format.specs.Joined.{Joined, AllWellFormed, CutAt, DivideBlocks, blockReads}
-use Rattle.format.specs.Joined.{fileReads}
+use Rattle.format.specs.Joined.{fileReads, fileNames}
 use Rattle.format.specs.Outcome.{Outcome, refusal, acceptedBlock, acceptedFile}
-use Rattle.format.specs.BlockAnswer.{validatedBlock, decoded, decodedLetters, decodedEnds}
+use Rattle.format.specs.BlockAnswer.{Buffers, validatedBlock, decoded, decodedBuffers}
 use Rattle.format.specs.FileAnswer.{validated}
 use Rattle.format.specs.RuleRecord.{Candidate}
 use Rattle.format.specs.RuleBlock.{codeOfLetter, writtenFrom, writtenDivision}
 use Rattle.format.specs.RuleBlock.{writtenNSection, writtenSizes, writtenHeader}
 use Rattle.format.specs.EncodeAnswer.{EncodeInput, candidatesOf, blockOf, readCountTooLarge}
 use Rattle.format.specs.EncodeAnswer.{candidateCountWrong, readEndsInvalid, letterInvalid}
-use Rattle.format.specs.EncodeAnswer.{blockCapacityTooSmall, encoded, encodedBuffer}
+use Rattle.format.specs.EncodeAnswer.{namesWrong, blockCapacityTooSmall, encoded}
+use Rattle.format.specs.EncodeAnswer.{encodedBuffer}
 
 -- ---- Demand 1: a refused call changes nothing and counts nothing
 
@@ -50,9 +55,16 @@ use Rattle.format.specs.EncodeAnswer.{blockCapacityTooSmall, encoded, en
 unfoldable pub upTo : (last number : ℕ) → Bool
 upTo last number = leb 1 number && leb number last
 
+-- The numbers of judging: 1 to 21 and 40; those of decoding: 22 besides.
+unfoldable pub judgingOwn : (number : ℕ) → Bool
+judgingOwn number = upTo 21 number || eqb number 40
+
+unfoldable pub decodingOwn : (number : ℕ) → Bool
+decodingOwn number = upTo 22 number || eqb number 40
+
 -- The writer's numbers.
 unfoldable pub writersOwn : (number : ℕ) → Bool
-writersOwn number = eqb number 1 || (leb 30 number && leb number 34)
+writersOwn number = eqb number 1 || ((leb 30 number && leb number 34) || eqb number 41)
 
 -- A refusal: its number is one of the call's own, every count in it is 0, and its read index is 0
 -- or below the number of reads.
@@ -71,13 +83,16 @@ pub record FileRefusal (bases : ℕ) (reference file : List ℕ) (outcome : Outc
   pub begins : flatten before ++ rest ≡ file
   pub block-index : outcome .block ≡ length before
   pub refused : validatedBlock bases reference rest ≡ refusal (outcome .number) 0 (outcome .read)
-  pub nothing : Refusal (upTo 21) (readCount (headerOf rest)) outcome
+  pub nothing : Refusal judgingOwn (readCount (headerOf rest)) outcome
 
--- The lent buffers have room for the letters and ends of a division.
-pub record Room (reference : List ℕ) (bases letterRoom endRoom : ℕ) (divided : BlockDivision)
+-- The lent buffers have room for the letters and ends of a division, and for its names and their
+-- ends.
+pub record Room (reference : List ℕ) (bases : ℕ) (buffers : Buffers) (divided : BlockDivision)
     : Type 0 where
-  pub letters : length (flatten (blockReads reference bases divided)) ≤ letterRoom
-  pub ends : length (divided .lengths) ≤ endRoom
+  pub letters : length (flatten (blockReads reference bases divided)) ≤ length (buffers .letters)
+  pub ends : length (divided .lengths) ≤ length (buffers .ends)
+  pub names : length (flatten (divided .names)) ≤ length (buffers .names)
+  pub nameEnds : length (divided .names) ≤ length (buffers .nameEnds)
 
 -- 01's table, each number beside its test: 2 to 8; 10 and 11 by length; the writer's.
 abbrev pub headerRows : (input : List ℕ) → List Fault
@@ -103,6 +118,7 @@ writerRows bases reference input room =
     ∷ fault 31 (candidateCountWrong input)
     ∷ fault 32 (readEndsInvalid input)
     ∷ fault 33 (letterInvalid input)
+    ∷ fault 41 (namesWrong input)
     ∷ fault 34 (blockCapacityTooSmall bases reference input room)
     ∷ []
 
@@ -134,14 +150,20 @@ pub record GivenExactly (bases : ℕ) (reference input : List ℕ) : Type 0 wher
       ↔ ((division : Division) × (size : ℕ) × (size < length (sectionOf input dnaNumber))
       × Divides bases lengths (sectionOf input nNumber) (take size (sectionOf input dnaNumber))
       division)
+  -- 40: the DNA section is divided, and no list is the names of the block.
+  pub of-names : (lengths : List ℕ) (division : Division) → ReferenceFits bases reference
+      → NoneFits (headerFaults input) → LengthsAre input lengths
+      → NoneFits (lengthFaults input lengths)
+      → Divides bases lengths (sectionOf input nNumber) (sectionOf input dnaNumber) division
+      → (validatedBlock bases reference input ≡ refusal 40 0 0) ↔ NamesInvalid input
   -- Decoding answers every refusal of judging.
-  pub of-decoding : (letters ends : List ℕ) → 0 < validatedBlock bases reference input .number
-      → decoded bases reference input letters ends ≡ validatedBlock bases reference input
+  pub of-decoding : (buffers : Buffers) → 0 < validatedBlock bases reference input .number
+      → decoded bases reference input buffers ≡ validatedBlock bases reference input
 
 -- When 1 is given, and the writer's numbers: by every call, the empty file included.
 pub record GivenFirst (bases : ℕ) (reference : List ℕ) : Type 0 where
-  pub decode : (input letters ends : List ℕ)
-      → (decoded bases reference input letters ends ≡ refusal 1 0 0)
+  pub decode : (input : List ℕ) (buffers : Buffers)
+      → (decoded bases reference input buffers ≡ refusal 1 0 0)
       ↔ (referenceSizeWrong bases reference ≡ true)
   pub validateBlock : (input : List ℕ)
       → (validatedBlock bases reference input ≡ refusal 1 0 0)
@@ -156,17 +178,16 @@ pub record GivenFirst (bases : ℕ) (reference : List ℕ) : Type 0 where
 
 -- Demand 1.
 pub record Demand1 : Type 0 where
-  -- Decoding: both lent buffers hold what they held before.
-  pub decode : (bases : ℕ) (reference input letters ends : List ℕ)
-      → 0 < decoded bases reference input letters ends .number
-      → Refusal (upTo 22) (readCount (headerOf input)) (decoded bases reference input letters ends)
-      × (decoded bases reference input letters ends .block ≡ 0)
-      × (decodedLetters bases reference input letters ends ≡ letters)
-      × (decodedEnds bases reference input letters ends ≡ ends)
+  -- Decoding: all lent buffers hold what they held before.
+  pub decode : (bases : ℕ) (reference input : List ℕ) (buffers : Buffers)
+      → 0 < decoded bases reference input buffers .number
+      → Refusal decodingOwn (readCount (headerOf input)) (decoded bases reference input buffers)
+      × (decoded bases reference input buffers .block ≡ 0)
+      × (decodedBuffers bases reference input buffers ≡ buffers)
   -- Judging a block.
   pub validateBlock : (bases : ℕ) (reference input : List ℕ)
       → 0 < validatedBlock bases reference input .number
-      → Refusal (upTo 21) (readCount (headerOf input)) (validatedBlock bases reference input)
+      → Refusal judgingOwn (readCount (headerOf input)) (validatedBlock bases reference input)
       × (validatedBlock bases reference input .block ≡ 0)
   -- Judging a file: it begins with well-formed blocks, as many as the block index says, and what
   -- follows them is refused with that number and read index.
@@ -184,10 +205,10 @@ pub record Demand1 : Type 0 where
       → GivenExactly bases reference input
   pub given-first : (bases : ℕ) (reference : List ℕ) → GivenFirst bases reference
   -- 22: the input begins with a well-formed block, but there is no room for it.
-  pub of-room : (bases : ℕ) (reference block rest letters ends : List ℕ) (divided : BlockDivision)
-      → ReferenceFits bases reference → WellFormed bases block → DividesBlock bases block divided
-      → (Room reference bases (length letters) (length ends) divided → ⊥)
-      → decoded bases reference (block ++ rest) letters ends ≡ refusal 22 0 0
+  pub of-room : (bases : ℕ) (reference block rest : List ℕ) (buffers : Buffers)
+      (divided : BlockDivision) → ReferenceFits bases reference → WellFormed bases block
+      → DividesBlock bases block divided → (Room reference bases buffers divided → ⊥)
+      → decoded bases reference (block ++ rest) buffers ≡ refusal 22 0 0
 
 -- ---- Counts, each by itself
 
@@ -204,36 +225,39 @@ readCounts bases reference divided =
 -- ---- Demand 2, reading: a well-formed block gives exactly what is defined, no other is accepted
 
 -- The input begins with a well-formed block, and there is room for it.
-pub record Readable (bases : ℕ) (reference input : List ℕ) (letterRoom endRoom : ℕ)
-    : Type 0 where
+pub record Readable (bases : ℕ) (reference input : List ℕ) (buffers : Buffers) : Type 0 where
   pub block : List ℕ
   pub rest : List ℕ
   pub begins : input ≡ block ++ rest
   pub wellFormed : WellFormed bases block
-  pub room : Room reference bases letterRoom endRoom (wellFormed .divided)
+  pub room : Room reference bases buffers (wellFormed .divided)
 
--- What decoding gives by a division: its counts, its letters and its ends, and the buffers past
--- them as before.
-pub record Decodes (bases : ℕ) (reference block input letters ends : List ℕ)
+-- What decoding gives by a division: its counts, its letters, its names and the ends of both, and
+-- the buffers past them as before.
+pub record Decodes (bases : ℕ) (reference block input : List ℕ) (buffers : Buffers)
     (divided : BlockDivision) : Type 0 where
-  pub outcome : decoded bases reference input letters ends
+  pub outcome : decoded bases reference input buffers
       ≡ acceptedBlock (length block) (totals exact (readCounts bases reference divided))
-  pub letters-are : decodedLetters bases reference input letters ends
-      ≡ pasted letters 0 (flatten (blockReads reference bases divided))
-  pub ends-are : decodedEnds bases reference input letters ends
-      ≡ pasted ends 0 (readEnds (divided .lengths))
+  pub letters-are : decodedBuffers bases reference input buffers .letters
+      ≡ pasted (buffers .letters) 0 (flatten (blockReads reference bases divided))
+  pub ends-are : decodedBuffers bases reference input buffers .ends
+      ≡ pasted (buffers .ends) 0 (readEnds (divided .lengths))
+  pub names-are : decodedBuffers bases reference input buffers .names
+      ≡ pasted (buffers .names) 0 (flatten (divided .names))
+  pub name-ends-are : decodedBuffers bases reference input buffers .nameEnds
+      ≡ pasted (buffers .nameEnds) 0 (placesFrom 0 (map length (divided .names)))
 
 pub record ReadsBlocks (bases : ℕ) (reference : List ℕ) : Type 0 where
   -- A block is accepted exactly if the input begins with a well-formed one and there is room.
-  pub accepted : (input letters ends : List ℕ) → AllBytes input
-      → (decoded bases reference input letters ends .number ≡ 0)
-      ↔ Readable bases reference input (length letters) (length ends)
-  -- Every division of such a block gives the letters, ends and counts of the answer, whatever
-  -- follows the block.
-  pub gives : (block rest letters ends : List ℕ) (divided : BlockDivision)
+  pub accepted : (input : List ℕ) (buffers : Buffers) → AllBytes input
+      → (decoded bases reference input buffers .number ≡ 0)
+      ↔ Readable bases reference input buffers
+  -- Every division of such a block gives the letters, ends, names and counts of the answer,
+  -- whatever follows the block.
+  pub gives : (block rest : List ℕ) (buffers : Buffers) (divided : BlockDivision)
       → WellFormed bases block → DividesBlock bases block divided
-      → Room reference bases (length letters) (length ends) divided
-      → Decodes bases reference block (block ++ rest) letters ends divided
+      → Room reference bases buffers divided
+      → Decodes bases reference block (block ++ rest) buffers divided
   -- Judging a block accepts exactly if the input begins with a well-formed one.
   pub validates : (input : List ℕ) → AllBytes input
       → (validatedBlock bases reference input .number ≡ 0)
@@ -249,11 +273,36 @@ Demand2Reading =
     (bases : ℕ) (reference : List ℕ) → ReferenceFits bases reference
     → ReadsBlocks bases reference
 
--- ---- Demand 2, writing: every list of reads is written by the fixed rule and reads back
+-- What decoding gives of a block: its reads, as letters, and its names.
+pub record Given : Type 0 where
+  pub reads : List (List ℕ)
+  pub names : List (List ℕ)
+
+-- The lent buffers have room for these reads and names and their ends.
+pub record RoomFor (reads names : List (List ℕ)) (buffers : Buffers) : Type 0 where
+  pub letters : length (flatten reads) ≤ length (buffers .letters)
+  pub ends : length reads ≤ length (buffers .ends)
+  pub name-bytes : length (flatten names) ≤ length (buffers .names)
+  pub name-ends : length names ≤ length (buffers .nameEnds)
+
+-- The buffers with the reads one after the other and the end of each, and the names one after the
+-- other and the end of each; what lay past them stays.
+abbrev pub filledWith : (reads names : List (List ℕ)) (buffers : Buffers) → Buffers
+filledWith reads names buffers =
+    record {
+      letters = pasted (buffers .letters) 0 (flatten reads);
+      ends = pasted (buffers .ends) 0 (placesFrom 0 (map length reads));
+      names = pasted (buffers .names) 0 (flatten names);
+      nameEnds = pasted (buffers .nameEnds) 0 (placesFrom 0 (map length names));
+    }
+
+-- ---- Demand 2, writing: reads and names are written by the fixed rule and read back
 
 -- What the lent types can hold: 32-bit ends and positions, bytes, b_id and c_time of 64 bits.
 pub record LentFits (input : EncodeInput) : Type 0 where
   pub ends : Below (2 ^ 32) (input .ends)
+  pub names : AllBytes (input .names)
+  pub nameEnds : Below (2 ^ 32) (input .nameEnds)
   pub positions : Below (2 ^ 32) (input .positions)
   pub strands : AllBytes (input .strands)
   pub lefts : AllBytes (input .lefts)
@@ -261,14 +310,16 @@ pub record LentFits (input : EncodeInput) : Type 0 where
   pub id : input .id < 2 ^ 64
   pub time : input .time < 2 ^ 64
 
--- The input is these reads, within the limits: at most 50,000, each of 1 to 100,000 letters of A,
--- C, G, T, N, one after the other; with four proposals a read, whatever they say.
-pub record Writable (reads : List (List ℕ)) (input : EncodeInput) : Type 0 where
+-- The input is these reads and names, within the limits: at most 50,000 reads, each of 1 to 100,000
+-- letters of A, C, G, T, N, one after the other; a name a read, each of 1 to 255 printable bytes,
+-- with one token count; with four proposals a read, whatever they say.
+pub record Writable (reads names : List (List ℕ)) (input : EncodeInput) : Type 0 where
   pub few : length reads ≤ 50_000
   pub lengths : All (λ read. lengthInvalid (length read) ≡ false) reads
   pub letters : All (λ read. All (λ letter. member letter alphabet ≡ true) read) reads
   pub letters-are : input .letters ≡ flatten reads
   pub ends-are : input .ends ≡ placesFrom 0 (map length reads)
+  pub named : LentNames (length reads) (input .names) (input .nameEnds) names
   pub positions : length (input .positions) ≡ length reads
   pub strands : length (input .strands) ≡ length reads
   pub lefts : length (input .lefts) ≡ length reads
@@ -285,8 +336,8 @@ ruleCounts bases reference reads candidates =
     map (λ w. recordCounts reference (w .context) (w .stored))
     (writtenFrom bases reference 0 reads candidates)
 
-pub record Writes (bases : ℕ) (reference : List ℕ) (reads : List (List ℕ)) (input : EncodeInput)
-    : Type 0 where
+pub record Writes (bases : ℕ) (reference : List ℕ) (reads names : List (List ℕ))
+    (input : EncodeInput) : Type 0 where
   -- With a buffer as long as the rule's block, the answer is its length; the buffer begins with it
   -- and keeps its rest.
   pub outcome : (out : List ℕ) → length (blockOf bases reference input) ≤ length out
@@ -299,37 +350,37 @@ pub record Writes (bases : ℕ) (reference : List ℕ) (reads : List (List ℕ))
       ≡ writtenHeader (input .id) (input .time)
       (length
       (divisionBytes (writtenDivision bases reference (codesOf reads) (candidatesOf input))))
-      (writtenSizes (map length reads))
+      (length (writtenNames names)) (writtenSizes (map length reads))
       (writtenNSection (writtenDivision bases reference (codesOf reads) (candidatesOf input)))
       (map length reads)
-  -- The block is well-formed, and the records of its division are the fixed rule's.
+  -- The block is well-formed, the records of its division are the fixed rule's, and its names are
+  -- these.
   pub wellFormed : WellFormed bases (blockOf bases reference input)
   pub division : (divided : BlockDivision)
       → DividesBlock bases (blockOf bases reference input) divided
       → (divided .lengths ≡ map length reads)
       × (divided .division ≡ writtenDivision bases reference (codesOf reads) (candidatesOf input))
-  -- Decoding it, whatever follows, gives these letters, these ends and the counts of the rule's
-  -- records.
-  pub reads-back : (rest letters ends : List ℕ) → total (map length reads) ≤ length letters
-      → length reads ≤ length ends
-      → (decoded bases reference (blockOf bases reference input ++ rest) letters ends
+      × (divided .names ≡ names)
+  -- Decoding it, whatever follows, gives these letters and names, these ends and the counts of the
+  -- rule's records.
+  pub reads-back : (rest : List ℕ) (buffers : Buffers) → RoomFor reads names buffers
+      → (decoded bases reference (blockOf bases reference input ++ rest) buffers
       ≡ acceptedBlock (length (blockOf bases reference input))
       (totals exact (ruleCounts bases reference (codesOf reads) (candidatesOf input))))
-      × (decodedLetters bases reference (blockOf bases reference input ++ rest) letters ends
-      ≡ pasted letters 0 (flatten reads))
-      × (decodedEnds bases reference (blockOf bases reference input ++ rest) letters ends
-      ≡ pasted ends 0 (placesFrom 0 (map length reads)))
+      × (decodedBuffers bases reference (blockOf bases reference input ++ rest) buffers
+      ≡ filledWith reads names buffers)
 
 pub record WritesBlocks (bases : ℕ) (reference : List ℕ) : Type 0 where
-  -- The writer accepts exactly the reads within the limits for which the buffer has room.
+  -- The writer accepts exactly the reads and names within the limits for which the buffer has
+  -- room.
   pub accepted : (input : EncodeInput) (out : List ℕ) → LentFits input
       → (encoded bases reference input out .number ≡ 0)
-      ↔ ((reads : List (List ℕ)) × Writable reads input
+      ↔ ((reads : List (List ℕ)) × (names : List (List ℕ)) × Writable reads names input
       × (length (blockOf bases reference input) ≤ length out))
-  -- Every such list of reads is written by the fixed rule and reads back, however wrong the
-  -- proposals are.
-  pub writes : (reads : List (List ℕ)) (input : EncodeInput) → LentFits input
-      → Writable reads input → Writes bases reference reads input
+  -- Every such list of reads and names is written by the fixed rule and reads back, however wrong
+  -- the proposals are.
+  pub writes : (reads names : List (List ℕ)) (input : EncodeInput) → LentFits input
+      → Writable reads names input → Writes bases reference reads names input
 
 abbrev pub Demand2Writing : Type 0
 Demand2Writing =
@@ -349,27 +400,26 @@ pub record Prefix (bases : ℕ) (reference front whole : List ℕ) (bs cs : List
   -- Its reads begin the other's.
   pub reads : (ds es : List BlockDivision) → DivideBlocks bases bs ds → DivideBlocks bases cs es
       → Begins (fileReads reference bases ds) (fileReads reference bases es)
+  -- Its names begin the other's.
+  pub names : (ds es : List BlockDivision) → DivideBlocks bases bs ds → DivideBlocks bases cs es
+      → Begins (fileNames ds) (fileNames es)
 
--- Decoding a block gives these reads: with room, whatever follows the block, their letters one
--- after the other and the end of each.
-abbrev pub DecodesTo : (bases : ℕ) (reference block : List ℕ) (reads : List (List ℕ)) → Type 0
-DecodesTo bases reference block reads =
-    (rest letters ends : List ℕ) → length (flatten reads) ≤ length letters
-    → length reads ≤ length ends
-    → (decoded bases reference (block ++ rest) letters ends .number ≡ 0)
-    × (decodedLetters bases reference (block ++ rest) letters ends
-    ≡ pasted letters 0 (flatten reads))
-    × (decodedEnds bases reference (block ++ rest) letters ends
-    ≡ pasted ends 0 (placesFrom 0 (map length reads)))
+-- Decoding a block gives these reads and names, whatever follows the block, if there is room.
+abbrev pub DecodesTo : (bases : ℕ) (reference block : List ℕ) (given : Given) → Type 0
+DecodesTo bases reference block given =
+    (rest : List ℕ) (buffers : Buffers) → RoomFor (given .reads) (given .names) buffers
+    → (decoded bases reference (block ++ rest) buffers .number ≡ 0)
+    × (decodedBuffers bases reference (block ++ rest) buffers
+    ≡ filledWith (given .reads) (given .names) buffers)
 
--- The reads of each block of a list, as decoding gives them.
+-- What each block of a list gives, as decoding gives it.
 abbrev pub DecodeTo : (bases : ℕ) (reference : List ℕ) (blocks : List (List ℕ))
-    (lists : List (List (List ℕ))) → Type 0
+    (lists : List Given) → Type 0
 DecodeTo bases reference [] [] = Unit {0}
-DecodeTo bases reference [] (reads ∷ lists) = ⊥
+DecodeTo bases reference [] (given ∷ lists) = ⊥
 DecodeTo bases reference (block ∷ blocks) [] = ⊥
-DecodeTo bases reference (block ∷ blocks) (reads ∷ lists) =
-    DecodesTo bases reference block reads × DecodeTo bases reference blocks lists
+DecodeTo bases reference (block ∷ blocks) (given ∷ lists) =
+    DecodesTo bases reference block given × DecodeTo bases reference blocks lists
 
 pub record JudgesFiles (bases : ℕ) (reference : List ℕ) : Type 0 where
   -- Judging accepts exactly the files joined from well-formed blocks.
@@ -385,22 +435,24 @@ pub record JudgesFiles (bases : ℕ) (reference : List ℕ) : Type 0 where
       → AllWellFormed bases blocks → Joined blocks file → DivideBlocks bases blocks ds
       → validated bases reference file
       ≡ acceptedFile (length blocks) (totals wrapped (flatMap (readCounts bases reference) ds))
-  -- Its reads are, block after block, the letters that decoding gives each block.
+  -- Its reads and its names are, block after block, those that decoding gives each block.
   pub reads : (blocks : List (List ℕ)) (ds : List BlockDivision) → AllWellFormed bases blocks
       → DivideBlocks bases blocks ds
-      → (lists : List (List (List ℕ))) × DecodeTo bases reference blocks lists
-      × (fileReads reference bases ds ≡ flatten lists)
-  -- A prefix of a file has a prefix of its blocks, cuts and reads.
+      → (lists : List Given) × DecodeTo bases reference blocks lists
+      × (fileReads reference bases ds ≡ flatMap (λ given. given .reads) lists)
+      × (fileNames ds ≡ flatMap (λ given. given .names) lists)
+  -- A prefix of a file has a prefix of its blocks, cuts, reads and names.
   pub prefixes : (front whole : List ℕ) → AllBytes whole
       → validated bases reference front .number ≡ 0 → validated bases reference whole .number ≡ 0
       → Begins front whole → (bs cs : List (List ℕ)) → AllWellFormed bases bs
       → AllWellFormed bases cs → Joined bs front → Joined cs whole
       → Prefix bases reference front whole bs cs
-  -- Inside a block the lengths and the division of the DNA section are unique: two divisions that
-  -- meet the rules agree in every cut, kind and field.
+  -- Inside a block the lengths, the division of the DNA section and the names are unique: two
+  -- divisions that meet the rules agree in every cut, kind and field.
   pub one-division : (block : List ℕ) (one other : BlockDivision) → WellFormed bases block
       → DividesBlock bases block one → DividesBlock bases block other
       → (one .lengths ≡ other .lengths) × SameDivision (one .division) (other .division)
+      × (one .names ≡ other .names)
 
 -- One claim about every reference, file and list of blocks.
 abbrev pub Demand3 : Type 0

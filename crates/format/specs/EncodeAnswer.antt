@@ -1,27 +1,31 @@
--- What encoding a block answers (level 2; 01, Numbers of refusal, writer: 1, 30 to 34), and what
--- the lent buffer then holds. No candidate is refused.
-use Prim.Native.Nat.{ℕ, _-_}
+-- What encoding a block answers (level 2; 01, Numbers of refusal, writer: 1, 30 to 34; 02,
+-- Ticket 1: 41), and what the lent buffer then holds. No candidate is refused.
+use Prim.Native.Nat.{ℕ}
 use mathlib.Core.Bool.{Bool, cond, not, _||_}
 use mathlib.Core.List.{List, [], _∷_, map}
 use lib.ListN.{length, getD}
 use lib.Dec.{ltb, eqb}
-use Rattle.base.specs.Lists.{build, part, any, member, stepsFrom}
+use Rattle.base.specs.Lists.{build, partEnding, any, member, endsWrongFor}
 use Rattle.base.specs.Faults.{Fault, fault}
 use Rattle.base.specs.Paste.{pasted}
 use Rattle.base.specs.Answer.{firstNumber}
 use Rattle.dna.specs.Counts.{zeroCounts}
 use Rattle.dna.specs.Reference.{alphabet, referenceSizeWrong}
 use Rattle.dna.specs.Sizes.{lengthInvalid}
+use Rattle.tokens.specs.WrittenNames.{namesLent, namesRefused}
 use Rattle.format.specs.HeaderFaults.{maxReads}
 use Rattle.format.specs.Outcome.{Outcome, refusal, acceptedBlock}
 use Rattle.format.specs.RuleRecord.{Candidate}
 use Rattle.format.specs.RuleBlock.{codeOfLetter, ruleBlock}
 
--- What the caller lends to the writer (01, The writer's fixed rule): letters in ASCII, the ends of
--- the reads, and four buffers of proposals; b_id and c_time are given.
+-- What the caller lends to the writer (01, The writer's fixed rule; 02, Ticket 1): letters in
+-- ASCII, the ends of the reads, names, the ends of the names, and four buffers of proposals; b_id
+-- and c_time are given.
 pub record EncodeInput : Type 0 where
   pub letters : List ℕ
   pub ends : List ℕ
+  pub names : List ℕ
+  pub nameEnds : List ℕ
   pub positions : List ℕ
   pub strands : List ℕ
   pub lefts : List ℕ
@@ -30,11 +34,14 @@ pub record EncodeInput : Type 0 where
   pub time : ℕ
 
 -- The input of the slices and numbers that a call is given.
-abbrev pub lent : (letters ends positions strands lefts rights : List ℕ) (id time : ℕ) → EncodeInput
-lent letters ends positions strands lefts rights id time =
+abbrev pub lent : (letters ends names nameEnds positions strands lefts rights : List ℕ)
+    (id time : ℕ) → EncodeInput
+lent letters ends names nameEnds positions strands lefts rights id time =
     record {
       letters = letters;
       ends = ends;
+      names = names;
+      nameEnds = nameEnds;
       positions = positions;
       strands = strands;
       lefts = lefts;
@@ -43,13 +50,11 @@ lent letters ends positions strands lefts rights id time =
       time = time;
     }
 
--- The reads as codes: each is the letters from the end before it, or 0, to its own.
+-- The reads as codes.
 unfoldable pub readsOfInput : (input : EncodeInput) → List (List ℕ)
 readsOfInput input =
     build (length (input .ends)) (λ i.
-    map codeOfLetter
-    (part (input .letters) (getD (0 ∷ input .ends) i 0)
-    (getD (input .ends) i 0 - getD (0 ∷ input .ends) i 0)))
+    map codeOfLetter (partEnding (input .letters) (input .ends) i))
 
 -- The candidate of each read.
 unfoldable pub candidatesOf : (input : EncodeInput) → List Candidate
@@ -65,7 +70,8 @@ candidatesOf input =
 -- The block that the fixed rule makes of the input.
 unfoldable pub blockOf : (bases : ℕ) (reference : List ℕ) (input : EncodeInput) → List ℕ
 blockOf bases reference input =
-    ruleBlock bases reference (input .id) (input .time) (readsOfInput input) (candidatesOf input)
+    ruleBlock bases reference (input .id) (input .time) (readsOfInput input)
+    (namesLent (input .names) (input .nameEnds)) (candidatesOf input)
 
 -- 30: reads above 50,000.
 unfoldable pub readCountTooLarge : (input : EncodeInput) → Bool
@@ -82,13 +88,16 @@ candidateCountWrong input =
 -- 32: ends not rising from 0 by 1 to 100,000, or the last not the letters' count (0 if no reads).
 unfoldable pub readEndsInvalid : (input : EncodeInput) → Bool
 readEndsInvalid input =
-    any lengthInvalid (stepsFrom 0 (input .ends))
-    || not
-    (eqb (getD (0 ∷ input .ends) (length (input .ends)) 0) (length (input .letters)))
+    endsWrongFor lengthInvalid (input .ends) (length (input .letters))
 
 -- 33: a letter not A, C, G, T, N.
 unfoldable pub letterInvalid : (input : EncodeInput) → Bool
 letterInvalid input = any (λ letter. not (member letter alphabet)) (input .letters)
+
+-- 41: names or ends that break the rules, or aren't one a read.
+unfoldable pub namesWrong : (input : EncodeInput) → Bool
+namesWrong input =
+    namesRefused (length (input .ends)) (input .names) (input .nameEnds)
 
 -- 34: the block is longer than the buffer; `room` is the length of the lent buffer.
 unfoldable pub blockCapacityTooSmall : (bases : ℕ) (reference : List ℕ) (input : EncodeInput)
@@ -96,7 +105,7 @@ unfoldable pub blockCapacityTooSmall : (bases : ℕ) (reference : List ℕ) (inp
 blockCapacityTooSmall bases reference input room =
     ltb room (length (blockOf bases reference input))
 
--- The faults of encoding in 01's order.
+-- The faults of encoding in the papers' order.
 unfoldable pub encodeFaults : (bases : ℕ) (reference : List ℕ) (input : EncodeInput) (room : ℕ)
     → List Fault
 encodeFaults bases reference input room =
@@ -105,6 +114,7 @@ encodeFaults bases reference input room =
     ∷ fault 31 (candidateCountWrong input)
     ∷ fault 32 (readEndsInvalid input)
     ∷ fault 33 (letterInvalid input)
+    ∷ fault 41 (namesWrong input)
     ∷ fault 34 (blockCapacityTooSmall bases reference input room)
     ∷ []
 

@@ -13,7 +13,7 @@ use Rattle.format.specs.WellFormed.{BlockDivision, WellFormed}
 use Rattle.format.specs.Joined.{fileReads}
 use Rattle.format.specs.EncodeAnswer.{EncodeInput, blockOf}
 use Rattle.format.specs.Outcome.{acceptedFile}
-use Rattle.format.specs.BlockAnswer.{decoded, decodedLetters, decodedEnds, idAnswer}
+use Rattle.format.specs.BlockAnswer.{Buffers, buffersOf, decoded, decodedBuffers, idAnswer}
 use Rattle.format.specs.FileAnswer.{validated}
 use Rattle.format.specs.RuleRecord.{Candidate, stepFits}
 use Rattle.format.specs.RuleBlock.{writtenFrom}
@@ -49,15 +49,21 @@ listingDivided =
       lengths = 4 ∷ [];
       division =
           oneRead fifthRow (record { fields = global 0 (entry 2 3 ∷ []); nOffsets = [] });
+      names = [];
     }
 
--- It is well-formed, and decodes to ACTT, 1 entry, 1 difference; a buffer of 6 letters and one of 2
--- ends keep what lies past them. A file of it has one block, and one of it twice has two, with the
--- sums and the reads of both. With a DNA byte left over the answer is 21, also without room.
+-- Room for 6 letters, 2 ends, 2 bytes of names and 1 end of a name.
+unfoldable pub smallBuffers : Buffers
+smallBuffers = buffersOf (replicate 6 9) (replicate 2 9) (replicate 2 9) (replicate 1 9)
+
+-- It is well-formed, and decodes to ACTT, 1 entry, 1 difference; the buffers keep what lies past
+-- letters and ends, and those of names all, since its names stay unread. A file of it has one
+-- block, and one of it twice has two, with the sums and the reads of both. With a DNA byte left
+-- over the answer is 21, also without room.
 pub record ListingRight : Type 0 where
   pub well-formed : WellFormed 12 listingBlock
   pub id : idAnswer listingBlock ≡ 7
-  pub outcome : decoded 12 reference listingBlock (replicate 6 9) (replicate 2 9)
+  pub outcome : decoded 12 reference listingBlock smallBuffers
       ≡ record {
         number = 0;
         block = 0;
@@ -66,9 +72,8 @@ pub record ListingRight : Type 0 where
         bytes = 132;
         counts = record { reads = 1; letters = 4; entries = 1; differences = 1 };
       }
-  pub letters : decodedLetters 12 reference listingBlock (replicate 6 9) (replicate 2 9)
-      ≡ A ∷ C ∷ T ∷ T ∷ 9 ∷ 9 ∷ []
-  pub ends : decodedEnds 12 reference listingBlock (replicate 6 9) (replicate 2 9) ≡ 4 ∷ 9 ∷ []
+  pub buffers : decodedBuffers 12 reference listingBlock smallBuffers
+      ≡ buffersOf (A ∷ C ∷ T ∷ T ∷ 9 ∷ 9 ∷ []) (4 ∷ 9 ∷ []) (9 ∷ 9 ∷ []) (9 ∷ [])
   pub one-block : validated 12 reference listingBlock
       ≡ acceptedFile 1 (record { reads = 1; letters = 4; entries = 1; differences = 1 })
   pub two-blocks : validated 12 reference (listingBlock ++ listingBlock)
@@ -82,7 +87,7 @@ pub record ListingRight : Type 0 where
       }
   pub file-reads : fileReads reference 12 (listingDivided ∷ listingDivided ∷ [])
       ≡ (A ∷ C ∷ T ∷ T ∷ []) ∷ (A ∷ C ∷ T ∷ T ∷ []) ∷ []
-  pub left-over : decoded 12 reference leftOverBlock [] []
+  pub left-over : decoded 12 reference leftOverBlock (buffersOf [] [] [] [])
       ≡ record {
         number = 21;
         block = 0;
@@ -112,13 +117,15 @@ placeAt position strand =
 
 -- Seven reads: CAAC reverse at 6; GTACGA with ends 2 and 1 at 0; NC without a place; TGCA at 8, up
 -- to the last base; CAC with ends 1 and 1, at 11; A at 11, a step of 0; C at 0, where the
--- reference has A.
+-- reference has A. Their names are r1 to r7.
 unfoldable pub sevenReads : EncodeInput
 sevenReads =
     record {
       letters =
           C ∷ A ∷ A ∷ C ∷ G ∷ T ∷ A ∷ C ∷ G ∷ A ∷ N ∷ C ∷ T ∷ G ∷ C ∷ A ∷ C ∷ A ∷ C ∷ A ∷ C ∷ [];
       ends = 4 ∷ 10 ∷ 12 ∷ 16 ∷ 19 ∷ 20 ∷ 21 ∷ [];
+      names = 114 ∷ 49 ∷ 114 ∷ 50 ∷ 114 ∷ 51 ∷ 114 ∷ 52 ∷ 114 ∷ 53 ∷ 114 ∷ 54 ∷ 114 ∷ 55 ∷ [];
+      nameEnds = 2 ∷ 4 ∷ 6 ∷ 8 ∷ 10 ∷ 12 ∷ 14 ∷ [];
       positions = 6 ∷ 0 ∷ 0 ∷ 8 ∷ 11 ∷ 11 ∷ 0 ∷ [];
       strands = 2 ∷ 1 ∷ 0 ∷ 1 ∷ 1 ∷ 1 ∷ 1 ∷ [];
       lefts = 0 ∷ 2 ∷ 0 ∷ 0 ∷ 1 ∷ 0 ∷ 0 ∷ [];
@@ -127,12 +134,13 @@ sevenReads =
       time = 5;
     }
 
--- Their block: the header; the group bytes and the seven records; the sizes; the N section.
+-- Their block: the header; the group bytes and the seven records; the names, of two columns, one of
+-- strings and one that rises from 1 by steps of 8 bits; the sizes; the N section.
 unfoldable pub sevenBlock : List ℕ
 sevenBlock =
-    0x49 ∷ 0x7c ∷ 121 ∷ 0 ∷ 0 ∷ 0 ∷ 35 ∷ 0 ∷ 0 ∷ 0 ∷ (replicate 12 0
+    0x49 ∷ 0x7c ∷ 121 ∷ 0 ∷ 0 ∷ 0 ∷ 35 ∷ 0 ∷ 0 ∷ 0 ∷ 50 ∷ 0 ∷ 0 ∷ 0 ∷ (replicate 8 0
     ++ (8 ∷ 0 ∷ 0 ∷ 0 ∷ 1 ∷ 0 ∷ 0 ∷ 0 ∷ (replicate 12 0
-    ++ (4 ∷ 0 ∷ 0 ∷ 0 ∷ 0 ∷ 0 ∷ 0 ∷ 0 ∷ 7 ∷ 0 ∷ 0 ∷ 0 ∷ 0x19 ∷ 0x50
+    ++ (8 ∷ 0 ∷ 0 ∷ 0 ∷ 0 ∷ 0 ∷ 0 ∷ 0 ∷ 7 ∷ 0 ∷ 0 ∷ 0 ∷ 0x19 ∷ 0x50
     ∷ 2 ∷ 1 ∷ 0 ∷ 0 ∷ 0 ∷ 0 ∷ 0 ∷ 0 ∷ 40 ∷ 0 ∷ 0 ∷ 0 ∷ 0 ∷ 0 ∷ 0 ∷ 0 ∷ 0
     ∷ 21 ∷ 0 ∷ 0 ∷ 0 ∷ (replicate 12 0
     ++ (5 ∷ (replicate 31 0
@@ -144,6 +152,10 @@ sevenBlock =
     ∷ 0x00 ∷ 0x03 ∷ 0x00 ∷ 0x01 ∷ 0x01 ∷ 0x50
     ∷ 0x00 ∷ 0x00
     ∷ 0x0c ∷ 0x00 ∷ 0x00 ∷ 0x00 ∷ 0x00 ∷ 0x01
+    ∷ 0x02 ∷ 0x00 ∷ 0x00 ∷ 0x00 ∷ 0x00 ∷ 0x04
+    ∷ 14 ∷ 0 ∷ 0 ∷ 0 ∷ 0 ∷ 0 ∷ 0 ∷ 0 ∷ 14 ∷ 0 ∷ 0 ∷ 0 ∷ 0 ∷ 0 ∷ 0 ∷ 0
+    ∷ 114 ∷ 0 ∷ 114 ∷ 0 ∷ 114 ∷ 0 ∷ 114 ∷ 0 ∷ 114 ∷ 0 ∷ 114 ∷ 0 ∷ 114 ∷ 0
+    ∷ 1 ∷ 0 ∷ 0 ∷ 0 ∷ 0 ∷ 0 ∷ 0 ∷ 0 ∷ 1 ∷ 1 ∷ 1 ∷ 1 ∷ 1 ∷ 1
     ∷ 0x02 ∷ 0xfc ∷ 0x04 ∷ 0x06 ∷ 0x02 ∷ 0x04 ∷ 0x03 ∷ 0x01
     ∷ 0x20 ∷ []))))))))
 

@@ -1,5 +1,5 @@
--- What judging a file answers (level 2; 01, Numbers of refusal): block by block with 1 to 21, to
--- the first refusal, with the block's index.
+-- What judging a file answers (level 2; 01, Numbers of refusal): block by block with 1 to 21 and
+-- 40, to the first refusal, with the block's index.
 use Prim.Native.Nat.{ℕ, zero, suc, _+_}
 use mathlib.Core.Bool.{cond}
 use mathlib.Core.List.{List, [], _∷_}

@@ -142,6 +142,10 @@ flagSet flags flag = eqb (flags / flag % 2) 1
 abbrev pub sameLengthFlag : ℕ
 sameLengthFlag = 0x1
 
+-- Flag 0x8: the names are stored in tokens. It alone decides, whatever 0x4 and 0x10 say.
+abbrev pub namesFlag : ℕ
+namesFlag = 0x8
+
 -- Flag 0x40: the DNA section holds plain letters (000, fallback mode).
 abbrev pub fallbackFlag : ℕ
 fallbackFlag = 0x40

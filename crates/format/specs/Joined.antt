@@ -53,6 +53,10 @@ unfoldable pub fileReads : (reference : List ℕ) (bases : ℕ) (divided : List 
     → List (List ℕ)
 fileReads reference bases divided = flatMap (blockReads reference bases) divided
 
+-- 02, Ticket 1: the names of a file are those of its blocks in order.
+unfoldable pub fileNames : (divided : List BlockDivision) → List (List ℕ)
+fileNames divided = flatMap (λ block. block .names) divided
+
 -- The counts of a file: exact sums over its blocks; the answer takes each modulo 2 ^ 64.
 unfoldable pub fileCounts : (reference : List ℕ) (bases : ℕ) (divided : List BlockDivision)
     → Counted

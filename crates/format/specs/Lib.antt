@@ -2,6 +2,7 @@ pub mod Header
 pub mod Sections
 pub mod HeaderFaults
 pub mod Lengths
+pub mod BlockNames
 pub mod WellFormed
 pub mod Joined
 pub mod Outcome

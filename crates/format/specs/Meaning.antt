@@ -12,7 +12,9 @@ use Rattle.base.specs.Numbers.{le}
 use Rattle.base.specs.Faults.{NoneFits}
 use Rattle.dna.specs.Reference.{referenceSizeWrong}
 use Rattle.dna.specs.Sizes.{lengthInvalid}
-use Rattle.format.specs.Header.{headerOf, flagSet, sameLengthFlag}
+use Rattle.tokens.specs.Names.{NamesStored}
+use Rattle.format.specs.BlockNames.{NamesAre}
+use Rattle.format.specs.Header.{headerOf, flagSet, sameLengthFlag, namesFlag, readCount}
 use Rattle.format.specs.Sections.{sectionOf, nNumber}
 use Rattle.format.specs.HeaderFaults.{headerTruncated, magicWrong, versionUnsupported}
 use Rattle.format.specs.HeaderFaults.{headerLengthTooSmall, flagUnsupported}
@@ -28,7 +30,7 @@ lengthField input number = le 4 input (6 + 4 * number)
 abbrev pub SignedIs : (field : ℤ) (stored : ℕ) → Type 0
 SignedIs field stored = (n : ℕ) → (field ≡ pos n) ↔ ((stored ≡ n) × (n < 2_147_483_648))
 
--- 2 to 8: each test fails exactly if its own sentence holds; the signed fields and flag 0x1.
+-- 2 to 8: each test fails exactly if its own sentence holds; the signed fields, flags 0x1 and 0x8.
 pub record HeaderMeans (input : List ℕ) : Type 0 where
   pub two : (headerTruncated input ≡ false) ↔ (121 ≤ length input)
   pub three : (magicWrong input ≡ false) ↔ (le 2 input 0 ≡ 0x7c49)
@@ -47,6 +49,14 @@ pub record HeaderMeans (input : List ℕ) : Type 0 where
   pub n-reads : SignedIs (headerOf input .«n_reads») (le 4 input 50)
   pub one-length : (flagSet (headerOf input .flags) sameLengthFlag ≡ true)
       ↔ (le 4 input 42 % 2 ≡ 1)
+  pub names-stored : (flagSet (headerOf input .flags) namesFlag ≡ true)
+      ↔ (le 4 input 42 / 0x8 % 2 ≡ 1)
+
+-- Flag 0x8 alone decides whether names are read; unread there are none, whatever the section holds.
+pub record NamesMean (input : List ℕ) (names : List (List ℕ)) : Type 0 where
+  pub stored : le 4 input 42 / 0x8 % 2 ≡ 1
+      → NamesAre input names ↔ NamesStored (readCount (headerOf input)) (sectionOf input 1) names
+  pub unread : le 4 input 42 / 0x8 % 2 ≡ 0 → NamesAre input names ↔ (names ≡ [])
 
 -- Where section `number` starts: after the header and the sections before it.
 abbrev pub startOf : (input : List ℕ) (number : ℕ) → ℕ
@@ -86,4 +96,5 @@ pub record TestsMean : Type 0 where
   pub nSection : (input : List ℕ) → NoneFits (headerFaults input)
       → (nSectionWrong input ≡ false)
       ↔ (length (sectionOf input nNumber) ≡ (le 4 input 50 + 7) / 8)
+  pub names : (input : List ℕ) (names : List (List ℕ)) → NamesMean input names
   pub asked : (input : List ℕ) → AskedHolds input

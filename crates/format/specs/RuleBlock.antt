@@ -12,6 +12,7 @@ use Rattle.dna.specs.Sizes.{StoredSize, same, inByte, inWords, sizeSectionBytes
 use Rattle.dna.specs.Record.{recordBytes}
 use Rattle.dna.specs.Alignment.{positionAfter}
 use Rattle.dna.specs.Division.{Group, Division, divisionBytes}
+use Rattle.tokens.specs.WrittenNames.{writtenNames}
 use Rattle.format.specs.Header.{tableLength, magicNumber, minVersion, Header, headerBytes}
 use Rattle.format.specs.RuleRecord.{Candidate, Written, written}
 
@@ -83,6 +84,7 @@ writtenSizes lengths =
 -- The fields of a written header that vary.
 pub record HeaderFields : Type 0 where
   pub «l_dna» : ℕ
+  pub «l_names» : ℕ
   pub «l_size» : ℕ
   pub «l_N» : ℕ
   pub flags : ℕ
@@ -99,7 +101,7 @@ headerWith fields =
       magic = magicNumber;
       «l_header» = pos tableLength;
       «l_dna» = fields .«l_dna»;
-      «l_names» = 0;
+      «l_names» = fields .«l_names»;
       «l_qualN» = 0;
       «l_qual» = 0;
       «l_size» = fields .«l_size»;
@@ -128,15 +130,17 @@ headerWith fields =
       «checksum_comp» = 0;
     }
 
--- Flag 0x4; b_id and c_time are given; what reading checks gets its right number.
-unfoldable pub writtenFields : (id time dnaSize : ℕ) (sizes nSection lengths : List ℕ)
+-- Flag 0x8 (02, Ticket 1: for 0x4); b_id and c_time are given; what reading checks gets its right
+-- number.
+unfoldable pub writtenFields : (id time dnaSize namesSize : ℕ) (sizes nSection lengths : List ℕ)
     → HeaderFields
-writtenFields id time dnaSize sizes nSection lengths =
+writtenFields id time dnaSize namesSize sizes nSection lengths =
     record {
       «l_dna» = dnaSize;
+      «l_names» = namesSize;
       «l_size» = length sizes;
       «l_N» = length nSection;
-      flags = cond (allEqual lengths) 0x5 0x4;
+      flags = cond (allEqual lengths) 0x9 0x8;
       «l_read» = cond (allEqual lengths) (getD lengths 0 0) 0;
       «n_reads» = length lengths;
       «b_id» = id;
@@ -144,21 +148,27 @@ writtenFields id time dnaSize sizes nSection lengths =
       «c_time» = time;
     }
 
-unfoldable pub writtenHeader : (id time dnaSize : ℕ) (sizes nSection lengths : List ℕ) → Header
+unfoldable pub writtenHeader : (id time dnaSize namesSize : ℕ) (sizes nSection lengths : List ℕ)
+    → Header
 unfolding headerWith writtenFields
-writtenHeader id time dnaSize sizes nSection lengths =
-    headerWith (writtenFields id time dnaSize sizes nSection lengths)
+writtenHeader id time dnaSize namesSize sizes nSection lengths =
+    headerWith (writtenFields id time dnaSize namesSize sizes nSection lengths)
 
--- The block of a division and its lengths: header, DNA, sizes, N; the other sections are empty.
-unfoldable pub writtenBlock : (id time : ℕ) (lengths : List ℕ) (division : Division) → List ℕ
-writtenBlock id time lengths division =
+-- The block of a division, its lengths and its names section: header, DNA, names, sizes, N; the
+-- other sections are empty.
+unfoldable pub writtenBlock : (id time : ℕ) (lengths names : List ℕ) (division : Division)
+    → List ℕ
+writtenBlock id time lengths names division =
     headerBytes
-    (writtenHeader id time (length (divisionBytes division)) (writtenSizes lengths)
-    (writtenNSection division) lengths)
-    ++ (divisionBytes division ++ (writtenSizes lengths ++ writtenNSection division))
+    (writtenHeader id time (length (divisionBytes division)) (length names)
+    (writtenSizes lengths) (writtenNSection division) lengths)
+    ++ (divisionBytes division
+    ++ (names ++ (writtenSizes lengths ++ writtenNSection division)))
 
--- The block that the fixed rule makes of a list of reads, as codes, and their candidates.
+-- The block that the fixed rule makes of a list of reads, as codes, their names and their
+-- candidates.
 unfoldable pub ruleBlock : (bases : ℕ) (reference : List ℕ) (id time : ℕ)
-    (reads : List (List ℕ)) (candidates : List Candidate) → List ℕ
-ruleBlock bases reference id time reads candidates =
-    writtenBlock id time (map length reads) (writtenDivision bases reference reads candidates)
+    (reads names : List (List ℕ)) (candidates : List Candidate) → List ℕ
+ruleBlock bases reference id time reads names candidates =
+    writtenBlock id time (map length reads) (writtenNames names)
+    (writtenDivision bases reference reads candidates)

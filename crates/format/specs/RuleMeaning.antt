@@ -19,6 +19,8 @@ use Rattle.format.specs.RuleRecord.{padded, clippedCodes, alignedFields,
 use Rattle.format.specs.RuleBlock.{storedFrom, allEqual, writtenHeader}
 use Rattle.format.specs.EncodeAnswer.{EncodeInput, readCountTooLarge}
 use Rattle.format.specs.EncodeAnswer.{candidateCountWrong, readEndsInvalid, letterInvalid}
+use Rattle.format.specs.EncodeAnswer.{namesWrong}
+use Rattle.tokens.specs.LentNames.{LentNames}
 
 -- The ends rise from 0 by 1 to 100,000, and the last is the letters' count (0 if no reads).
 pub record EndsRise (ends : List ℕ) (letters : ℕ) : Type 0 where
@@ -38,6 +40,9 @@ pub record WriterMeans (input : EncodeInput) : Type 0 where
       ↔ EndsRise (input .ends) (length (input .letters))
   pub thirty-three : (letterInvalid input ≡ false)
       ↔ All (λ letter. member letter (65 ∷ 67 ∷ 71 ∷ 84 ∷ 78 ∷ []) ≡ true) (input .letters)
+  pub forty-one : (namesWrong input ≡ false)
+      ↔ ((names : List (List ℕ))
+      × LentNames (length (input .ends)) (input .names) (input .nameEnds) names)
 
 -- The place is used exactly if strand is 1 or 2, left + right is below the length, the stretch is
 -- inside, and at most 31 entries suffice.
@@ -107,17 +112,19 @@ pub record SizesHold (previous size : ℕ) (rest : List ℕ) : Type 0 where
   pub first-words : 256 ≤ size
       → storedFrom false previous (size ∷ rest) ≡ inWords size ∷ storedFrom true size rest
 
--- 0x1 is set exactly if there is a read and all are equal, and 0x4 always; l_read is then that
--- length, else 0.
-pub record FlagsHold (id time dnaSize : ℕ) (sizes nSection lengths : List ℕ) : Type 0 where
+-- 0x1 is set exactly if there is a read and all are equal, 0x8 always and 0x4 never; l_read is then
+-- that length, else 0.
+pub record FlagsHold (id time dnaSize namesSize : ℕ) (sizes nSection lengths : List ℕ)
+    : Type 0 where
   pub equal : (allEqual lengths ≡ true)
       ↔ ((0 < length lengths) × All (λ size. size ≡ getD lengths 0 0) lengths)
   pub one-length : allEqual lengths ≡ true
-      → (writtenHeader id time dnaSize sizes nSection lengths .flags ≡ 0x5)
-      × (writtenHeader id time dnaSize sizes nSection lengths .«l_read» ≡ pos (getD lengths 0 0))
+      → (writtenHeader id time dnaSize namesSize sizes nSection lengths .flags ≡ 0x9)
+      × (writtenHeader id time dnaSize namesSize sizes nSection lengths .«l_read»
+      ≡ pos (getD lengths 0 0))
   pub several : allEqual lengths ≡ false
-      → (writtenHeader id time dnaSize sizes nSection lengths .flags ≡ 0x4)
-      × (writtenHeader id time dnaSize sizes nSection lengths .«l_read» ≡ pos 0)
+      → (writtenHeader id time dnaSize namesSize sizes nSection lengths .flags ≡ 0x8)
+      × (writtenHeader id time dnaSize namesSize sizes nSection lengths .«l_read» ≡ pos 0)
 
 pub record RuleMeans : Type 0 where
   pub writer : (input : EncodeInput) → WriterMeans input
@@ -128,8 +135,8 @@ pub record RuleMeans : Type 0 where
   pub written : (bases : ℕ) (reference : List ℕ) (previous : ℕ) (codes : List ℕ)
       (candidate : Candidate) → WrittenHolds bases reference previous codes candidate
   pub sizes : (previous size : ℕ) (rest : List ℕ) → SizesHold previous size rest
-  pub flags : (id time dnaSize : ℕ) (sizes nSection lengths : List ℕ)
-      → FlagsHold id time dnaSize sizes nSection lengths
+  pub flags : (id time dnaSize namesSize : ℕ) (sizes nSection lengths : List ℕ)
+      → FlagsHold id time dnaSize namesSize sizes nSection lengths
   -- pos_t is set exactly where the step is 0 to 65,535.
   pub step : (previous position : ℕ) → (stepFits previous position ≡ true)
       ↔ ((previous ≤ position) × (position - previous ≤ 65_535))
@@ -147,6 +154,6 @@ pub record RuleMeans : Type 0 where
       ≡ map (λ code. cond (eqb code 4) 0 code)
       (take (candidate .left) codes ++ drop (length codes - candidate .right) codes)
   -- b_id and c_time are given.
-  pub given : (id time dnaSize : ℕ) (sizes nSection lengths : List ℕ)
-      → (writtenHeader id time dnaSize sizes nSection lengths .«b_id» ≡ id)
-      × (writtenHeader id time dnaSize sizes nSection lengths .«c_time» ≡ time)
+  pub given : (id time dnaSize namesSize : ℕ) (sizes nSection lengths : List ℕ)
+      → (writtenHeader id time dnaSize namesSize sizes nSection lengths .«b_id» ≡ id)
+      × (writtenHeader id time dnaSize namesSize sizes nSection lengths .«c_time» ≡ time)

@@ -1,6 +1,6 @@
 -- The nine sections, 01's bodies (01, The desk's material: they follow in the order of their length
--- fields; each length counts opened bytes). Read are those of DNA, sizes and N; all others are
--- carried unread.
+-- fields; each length counts opened bytes). Read are those of DNA, sizes and N and, with flag 0x8,
+-- that of names; all others are carried unread.
 use Prim.Native.Nat.{ℕ, _+_}
 use mathlib.Core.List.{List, [], _∷_}
 use lib.ListN.{getD, take}
@@ -22,9 +22,12 @@ sectionLengths header =
     ∷ header .«l_m3»
     ∷ []
 
--- The numbers of the DNA, size and N sections.
+-- The numbers of the DNA, names, size and N sections.
 abbrev pub dnaNumber : ℕ
 dnaNumber = 0
+
+abbrev pub namesNumber : ℕ
+namesNumber = 1
 
 abbrev pub sizeNumber : ℕ
 sizeNumber = 4

@@ -6,7 +6,7 @@ use mathlib.Core.Path.{_≡_}
 use mathlib.Core.List.{List}
 use lib.ListN.{length}
 use Rattle.base.specs.Packed.{symbolAt}
-use Rattle.format.specs.BlockAnswer.{validatedBlock, decoded, decodedLetters, decodedEnds}
+use Rattle.format.specs.BlockAnswer.{Buffers, validatedBlock, decoded, decodedBuffers}
 use Rattle.format.specs.FileAnswer.{validated}
 use Rattle.format.specs.EncodeAnswer.{EncodeInput, encoded, encodedBuffer}
 
@@ -21,12 +21,10 @@ pub record SameCalls (bases : ℕ) (one other : List ℕ) : Type 0 where
   -- Judging a block.
   pub validateBlock : (input : List ℕ)
       → validatedBlock bases one input ≡ validatedBlock bases other input
-  -- Decoding: the outcome and both lent buffers.
-  pub decode : (input letters ends : List ℕ)
-      → (decoded bases one input letters ends ≡ decoded bases other input letters ends)
-      × (decodedLetters bases one input letters ends
-      ≡ decodedLetters bases other input letters ends)
-      × (decodedEnds bases one input letters ends ≡ decodedEnds bases other input letters ends)
+  -- Decoding: the outcome and all lent buffers.
+  pub decode : (input : List ℕ) (buffers : Buffers)
+      → (decoded bases one input buffers ≡ decoded bases other input buffers)
+      × (decodedBuffers bases one input buffers ≡ decodedBuffers bases other input buffers)
   -- Judging a file.
   pub validate : (file : List ℕ) → validated bases one file ≡ validated bases other file
   -- Encoding: the outcome and the lent buffer.

@@ -15,7 +15,7 @@ use Rattle.header.specs.WrittenHeader.{fieldsOf, zeros, lengthBytes, cou
 -- The parts in which a table is written.
 abbrev pub tableParts : (fields : VaryingFields) → List (List ℕ)
 tableParts fields =
-    lengthBytes (fields .«l_dna») (fields .«l_size») (fields .«l_n»)
+    lengthBytes (fields .«l_dna») (fields .«l_names») (fields .«l_size») (fields .«l_n»)
     ∷ countBytes (fields .flags) (fields .«l_read») (fields .«n_reads») (fields .«b_id»)
     ∷ rawBytes (fields .«l_dna_raw») (fields .«c_time»)
     ∷ []
@@ -31,9 +31,9 @@ pub length-tableParts : (fields : VaryingFields) → length (flatten (tableParts
 unfolding leBytes build zeros lengthBytes countBytes rawBytes flatten
 length-tableParts fields = refl
 
-pub length-lengthBytes : (dna sizes ns : ℕ) → length (lengthBytes dna sizes ns) ≡ 42
+pub length-lengthBytes : (dna names sizes ns : ℕ) → length (lengthBytes dna names sizes ns) ≡ 42
 unfolding leBytes build zeros lengthBytes flatten
-length-lengthBytes dna sizes ns = refl
+length-lengthBytes dna names sizes ns = refl
 
 pub length-countBytes : (flags size count id : ℕ) → length (countBytes flags size count id) ≡ 22
 unfolding leBytes countBytes flatten

@@ -13,6 +13,7 @@ abbrev pub fieldsOf : (fields : VaryingFields) → HeaderFields
 fieldsOf fields =
     record {
       «l_dna» = fields .«l_dna»;
+      «l_names» = fields .«l_names»;
       «l_size» = fields .«l_size»;
       «l_N» = fields .«l_n»;
       flags = fields .flags;
@@ -28,13 +29,14 @@ unfoldable pub zeros : (count : ℕ) → List ℕ
 zeros count = build count (λ k. 0)
 
 -- Bytes 0 to 41.
-unfoldable pub lengthBytes : (dna sizes ns : ℕ) → List ℕ
-lengthBytes dna sizes ns =
+unfoldable pub lengthBytes : (dna names sizes ns : ℕ) → List ℕ
+lengthBytes dna names sizes ns =
     flatten
     (leBytes 2 magicNumber
     ∷ leBytes 4 tableLength
     ∷ leBytes 4 dna
-    ∷ zeros 12
+    ∷ leBytes 4 names
+    ∷ zeros 8
     ∷ leBytes 4 sizes
     ∷ leBytes 4 ns
     ∷ zeros 12

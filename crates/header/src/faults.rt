@@ -45,6 +45,9 @@ pub const MAX_READS: usize = 50_000;
 // All reads have one length.
 pub const SAME_LENGTH_FLAG: u32 = 0x1;
 
+// The names are stored in tokens.
+pub const NAMES_FLAG: u32 = 0x8;
+
 // The DNA section holds plain letters.
 pub const FALLBACK_FLAG: u32 = 0x40;
 

@@ -1,5 +1,6 @@
 // The fields of a table of contents, each at its offset. Every `requires` says that the table is
 // there.
+use crate::faults::NAMES_FLAG;
 use crate::faults::SAME_LENGTH_FLAG;
 use crate::faults::flag_set;
 use integers::i32_at;
@@ -17,6 +18,7 @@ ghost use Rattle.format.specs.Header.{
   headerOf,
   flagSet,
   sameLengthFlag,
+  namesFlag,
   readCount,
 };
 
@@ -109,4 +111,12 @@ pub fn same_length(input: &[u8]) -> bool
     ensures { λ r. ⌜ r ≡ flagSet (headerOf (now (input .entry)) .flags) sameLengthFlag ⌝ }
 {
     flag_set(flags(input), SAME_LENGTH_FLAG)
+}
+
+// Whether the names are stored in tokens.
+pub fn names_stored(input: &[u8]) -> bool
+    requires { ⌜ tableLength ≤ length (now input) ⌝ }
+    ensures { λ r. ⌜ r ≡ flagSet (headerOf (now (input .entry)) .flags) namesFlag ⌝ }
+{
+    flag_set(flags(input), NAMES_FLAG)
 }

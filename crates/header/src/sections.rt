@@ -25,6 +25,8 @@ pub const SECTIONS: usize = 9;
 // The numbers of those that are read; the others are carried unread.
 pub const DNA_SECTION: u64 = 0;
 
+pub const NAMES_SECTION: u64 = 1;
+
 pub const SIZE_SECTION: u64 = 4;
 
 pub const N_SECTION: u64 = 5;

@@ -29,14 +29,15 @@ const QUALITY_TYPE: u32 = 40;
 // The fields that vary from block to block.
 pub struct VaryingFields {
     pub l_dna: u32,
+    pub l_names: u32,
     pub l_size: u32,
     pub l_n: u32,
     pub flags: u32,
     pub l_read: u32,
     pub n_reads: u32,
+    pub l_dna_raw: u32,
     pub b_id: u64,
     pub c_time: u64,
-    pub l_dna_raw: u32,
 }
 
 // Writes the table of contents with these fields.
@@ -45,7 +46,7 @@ pub fn put_header(out: &mut [u8], fields: VaryingFields)
     ensures { λ _. ⌜ now (out .exit)
         ≡ pasted (now (out .entry)) 0 (headerBytes (headerWith (fieldsOf fields))) ⌝ }
 {
-    put_lengths(out, fields.l_dna, fields.l_size, fields.l_n);
+    put_lengths(out, fields.l_dna, fields.l_names, fields.l_size, fields.l_n);
     put_counts(
         out,
         fields.flags,
@@ -57,14 +58,16 @@ pub fn put_header(out: &mut [u8], fields: VaryingFields)
 }
 
 // Bytes 0 to 41: the magic, l_header, and the lengths of the sections.
-fn put_lengths(out: &mut [u8], dna: u32, sizes: u32, ns: u32)
+fn put_lengths(out: &mut [u8], dna: u32, names: u32, sizes: u32, ns: u32)
     requires { ⌜ tableLength ≤ length (now out) ⌝ }
-    ensures { λ _. ⌜ now (out .exit) ≡ pasted (now (out .entry)) 0 (lengthBytes dna sizes ns) ⌝ }
+    ensures { λ _. ⌜ now (out .exit)
+        ≡ pasted (now (out .entry)) 0 (lengthBytes dna names sizes ns) ⌝ }
 {
     put_u16(out, 0, MAGIC);
     put_u32(out, 2, HEADER_LENGTH);
     put_u32(out, 6, dna);
-    put_zeros(out, 10, 12);
+    put_u32(out, 10, names);
+    put_zeros(out, 14, 8);
     put_u32(out, 22, sizes);
     put_u32(out, 26, ns);
     put_zeros(out, 30, 12);

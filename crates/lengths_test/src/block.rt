@@ -52,6 +52,7 @@ pub fn write_block_with(sizes: &[u8], flags: u32, each: u32, out: &mut [u8]) -> 
 fn block_fields(size: u32, flags: u32, each: u32) -> VaryingFields {
     VaryingFields {
         l_dna: 86,
+        l_names: 0,
         l_size: size,
         l_n: 1,
         flags: flags,

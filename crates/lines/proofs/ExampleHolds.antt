@@ -15,7 +15,8 @@ use Rattle.format.specs.HeaderFaults.{tableFaults, headerFaults}
 use Rattle.format.specs.Lengths.{dnaSizeWrong, nSectionWrong, lengthFaults}
 use Rattle.format.specs.Joined.{blockReads, blockCounts}
 use Rattle.format.specs.BlockAnswer.{headerRefused, idAnswer, lengthsAnswer, dnaTrailing}
-use Rattle.format.specs.BlockAnswer.{blockAnswer, capacityTooSmall, decodeAnswer}
+use Rattle.format.specs.BlockAnswer.{dnaAnswer, namesAnswer, blockAnswer, capacityTooSmall}
+use Rattle.format.specs.BlockAnswer.{decodeAnswer}
 use Rattle.format.specs.Examples.{fifthRow, blockWith, listingBlock}
 use Rattle.base.specs.Decimal.{digitsOf, decimal}
 use Rattle.lines.specs.Text.{text}
@@ -33,7 +34,7 @@ unfolding walking total signed nonNegative fixedLengths lengthsGiven headerOf fl
     headerTruncated magicWrong versionUnsupported headerLengthTooSmall flagUnsupported
     readCountOutOfRange sectionsTruncated tableFaults headerFaults dnaSizeWrong nSectionWrong
     lengthFaults blockReads blockCounts headerRefused idAnswer lengthsAnswer dnaTrailing
-    blockAnswer capacityTooSmall decodeAnswer flatten fifthRow blockWith listingBlock text digitsOf
+    dnaAnswer namesAnswer blockAnswer capacityTooSmall decodeAnswer flatten fifthRow blockWith listingBlock text digitsOf
     decimal labelled blockLine readLine readLines blockText endLine refusedLine basesOf referenceOf
     referenceRefused windowOf listedAnswer answerText answerMove turnText turnMove nextText nextMove
     blocksText

@@ -27,15 +27,15 @@ use Rattle.format.specs.Sections.{nNumber, sectionOf}
 use Rattle.format.specs.WellFormed.{BlockDivision, DividesBlock}
 use Rattle.format.specs.Joined.{blockReads, blockCounts}
 use Rattle.format.specs.Outcome.{Outcome, refusal, acceptedBlock}
-use Rattle.format.specs.BlockAnswer.{blockAnswer, blockOutcome, capacityTooSmall, decodeAnswer}
-use Rattle.format.specs.BlockAnswer.{idAnswer, decoded, lettersAfter, endsAfter, decodedLetters, decodedEnds}
-use Rattle.format.proofs.AnswerNumbers.{OwnRefusal, decode-own}
+use Rattle.format.specs.BlockAnswer.{blockAnswer, blockOutcome, Buffers, capacityTooSmall}
+use Rattle.format.specs.BlockAnswer.{decodeAnswer, idAnswer, decoded, buffersAfter, decodedBuffers}
+use Rattle.format.proofs.AnswerNumbers.{OwnRefusal, least-own, decode-own}
 use Rattle.format.proofs.BlockLaws.{Accepted, block-found}
 use Rattle.format.proofs.HeaderLaws.{HeaderRight, faults-right}
 use Rattle.lines.specs.Lines.{blockText, refusedLine}
 use Rattle.lines.specs.Cuts.{readsCut, EndsRise}
-use Rattle.lines.specs.Listing.{lettersLent, endsLent, listedAnswer, answerText, answerMove}
-use Rattle.lines.specs.Listing.{turnText, turnMove}
+use Rattle.lines.specs.Listing.{lettersLent, endsLent, nameBytesLent, nameEndsLent}
+use Rattle.lines.specs.Listing.{listedAnswer, answerText, answerMove, turnText, turnMove}
 use Rattle.lines.proofs.CutLaws.{cut-back, ends-rise, length-placesFrom}
 
 -- ---- The reads of a division
@@ -79,20 +79,39 @@ reads-counted bases reference divided =
 
 -- ---- What is lent
 
-module _ (bases : ℕ) (reference window letters ends : List ℕ)
-    (many : length letters ≡ lettersLent) (few : length ends ≡ endsLent) where
+-- The lent buffers have the lengths that the program lends.
+pub record LentSizes (buffers : Buffers) : Type 0 where
+  pub letters : length (buffers .letters) ≡ lettersLent
+  pub ends : length (buffers .ends) ≡ endsLent
+  pub names : length (buffers .names) ≡ nameBytesLent
+  pub name-ends : length (buffers .nameEnds) ≡ nameEndsLent
+
+module _ (bases : ℕ) (reference window : List ℕ) (buffers : Buffers) (sizes : LentSizes buffers) where
+  -- The buffers of letters and ends.
+  abbrev letters : List ℕ
+  letters = buffers .letters
+
+  abbrev ends : List ℕ
+  ends = buffers .ends
+
   -- Of what is lent only the lengths matter.
-  listed : decodeAnswer bases reference window letters ends
-      ≡ listedAnswer bases reference window
-  unfolding decodeAnswer listedAnswer
+  listed : decodeAnswer bases reference window buffers ≡ listedAnswer bases reference window
+  unfolding decodeAnswer listedAnswer capacityTooSmall
   listed =
-      ap₂ (λ (letterRoom endRoom : ℕ).
+      let room : (a b c d : ℕ) → Walk BlockDivision = λ a b c d.
       andThen (blockAnswer bases reference window) (λ divided next.
       checked (refusedAt 0)
-      (fault 22 (capacityTooSmall reference bases letterRoom endRoom divided) ∷ [])
-      (found divided next)))
-      (many ∙ sym (length-replicate {A = ℕ} lettersLent 0))
-      (few ∙ sym (length-replicate {A = ℕ} endsLent 0))
+      (fault 22
+      (ltb a (length (flatten (blockReads reference bases divided)))
+      || (ltb b (length (divided .lengths))
+      || (ltb c (length (flatten (divided .names))) || ltb d (length (divided .names))))) ∷ [])
+      (found divided next)) in
+      ap₂ (λ (a b : ℕ). room a b (length (buffers .names)) (length (buffers .nameEnds)))
+      (sizes .letters ∙ sym (length-replicate {A = ℕ} lettersLent 0))
+      (sizes .ends ∙ sym (length-replicate {A = ℕ} endsLent 0))
+      ∙ ap₂ (λ (c d : ℕ). room (length (replicate {A = ℕ} lettersLent 0)) (length (replicate {A = ℕ} endsLent 0)) c d)
+      (sizes .names ∙ sym (length-replicate {A = ℕ} nameBytesLent 0))
+      (sizes .name-ends ∙ sym (length-replicate {A = ℕ} nameEndsLent 0))
 
   -- A decoded block was judged, and there was room.
   pub record Found (divided : BlockDivision) (next : ℕ) : Type 0 where
@@ -101,21 +120,21 @@ module _ (bases : ℕ) (reference window letters ends : List ℕ)
     pub ends-fit : length (divided .lengths) ≤ length ends
 
   found-parts : (divided : BlockDivision) (next : ℕ)
-      → decodeAnswer bases reference window letters ends ≡ found divided next
+      → decodeAnswer bases reference window buffers ≡ found divided next
       → Found divided next
   unfolding decodeAnswer capacityTooSmall any
   found-parts divided next e =
       andThen-parts (blockAnswer bases reference window) _ e (λ divided₁ next₁ e₁ e₂.
       let parts = checked-found (ofRead 0) _ _ e₂ in
-      let over = ltb (length letters) (length (flatten (blockReads reference bases divided₁))) in
-      let fit = or-neither (over || ltb (length ends) (length (divided₁ .lengths))) _ (parts .0) in
-      let both = or-neither over _ (fit .0) in
+      let full = or-neither (capacityTooSmall reference bases buffers divided₁) _ (parts .0) in
+      let over = or-neither (ltb (length letters) (length (flatten (blockReads reference bases divided₁)))) _ (full .0) in
+      let long = or-neither (ltb (length ends) (length (divided₁ .lengths))) _ (over .1) in
       let same = found-same (parts .1) in
       subst (λ (d : BlockDivision). Found d next) (same .0)
       (record {
         judged = e₁ ∙ ap (found divided₁) (same .1);
-        letters-fit = ltb-false (length letters) _ (both .0);
-        ends-fit = ltb-false (length ends) _ (both .1);
+        letters-fit = ltb-false (length letters) _ (over .0);
+        ends-fit = ltb-false (length ends) _ (long .0);
       }))
 
   -- What a turn has where its block was decoded: the reads, which the ends cut out of the letters.
@@ -134,12 +153,13 @@ module _ (bases : ℕ) (reference window letters ends : List ℕ)
   module _ (all : AllBytes window) where
     accepted-by : (bytes : ℕ) (counts : Counted) (letters′ ends′ : List ℕ)
         (answer : Walk BlockDivision)
-        → decodeAnswer bases reference window letters ends ≡ answer
+        → decodeAnswer bases reference window buffers ≡ answer
         → Refuses (OwnRefusal 1 22 (readCount (headerOf window))) answer
         → acceptedBlock bytes counts ≡ blockOutcome reference bases answer
-        → letters′ ≡ lettersAfter reference bases answer letters → ends′ ≡ endsAfter answer ends
+        → letters′ ≡ buffersAfter reference bases answer buffers .letters
+        → ends′ ≡ buffersAfter reference bases answer buffers .ends
         → Listed bytes counts letters′ ends′
-    unfolding blockOutcome lettersAfter endsAfter readEnds turnText turnMove answerText answerMove
+    unfolding blockOutcome buffersAfter readEnds turnText turnMove answerText answerMove
     accepted-by bytes counts letters′ ends′ (found divided next) is own same letters-are ends-are =
         let moved : bytes ≡ next = ap (λ (o : Outcome). o .bytes) same in
         let counts-are : counts ≡ blockCounts reference bases divided =
@@ -190,21 +210,21 @@ module _ (bases : ℕ) (reference window letters ends : List ℕ)
         }
     accepted-by bytes counts letters′ ends′ (refused why) is own same letters-are ends-are =
         let none : 0 ≡ why .number = ap (λ (o : Outcome). o .number) same in
-        absurd (omega (arith, own .least))
+        absurd (omega (arith, least-own 1 (omega arith) (own .number-own)))
 
     pub turn-accepted : (bytes : ℕ) (counts : Counted) (letters′ ends′ : List ℕ)
-        → acceptedBlock bytes counts ≡ decoded bases reference window letters ends
-        → letters′ ≡ decodedLetters bases reference window letters ends
-        → ends′ ≡ decodedEnds bases reference window letters ends
+        → acceptedBlock bytes counts ≡ decoded bases reference window buffers
+        → letters′ ≡ decodedBuffers bases reference window buffers .letters
+        → ends′ ≡ decodedBuffers bases reference window buffers .ends
         → Listed bytes counts letters′ ends′
-    unfolding decoded decodedLetters decodedEnds
+    unfolding decoded decodedBuffers
     turn-accepted bytes counts letters′ ends′ =
         accepted-by bytes counts letters′ ends′
-        (decodeAnswer bases reference window letters ends) refl
-        (decode-own bases reference window letters ends)
+        (decodeAnswer bases reference window buffers) refl
+        (decode-own bases reference window buffers)
 
     refused-by : (number read block : ℕ) (answer : Walk BlockDivision)
-        → decodeAnswer bases reference window letters ends ≡ answer
+        → decodeAnswer bases reference window buffers ≡ answer
         → refusal number 0 read ≡ blockOutcome reference bases answer
         → (turnText bases reference window block ≡ refusedLine number block read)
         × (turnMove bases reference window ≡ 0)
@@ -224,9 +244,9 @@ module _ (bases : ℕ) (reference window letters ends : List ℕ)
     )
 
     pub turn-refused : (number read block : ℕ)
-        → refusal number 0 read ≡ decoded bases reference window letters ends
+        → refusal number 0 read ≡ decoded bases reference window buffers
         → (turnText bases reference window block ≡ refusedLine number block read)
         × (turnMove bases reference window ≡ 0)
     unfolding decoded
     turn-refused number read block =
-        refused-by number read block (decodeAnswer bases reference window letters ends) refl
+        refused-by number read block (decodeAnswer bases reference window buffers) refl

@@ -11,7 +11,7 @@ use Rattle.dna.specs.Reference.{referenceSizeWrong}
 use Rattle.dna.specs.Walk.{Walk}
 use Rattle.format.specs.WellFormed.{BlockDivision}
 use Rattle.format.specs.Joined.{blockReads, blockCounts}
-use Rattle.format.specs.BlockAnswer.{idAnswer, decodeAnswer}
+use Rattle.format.specs.BlockAnswer.{idAnswer, buffersOf, decodeAnswer}
 use Rattle.lines.specs.Lines.{lineRoom, blockText, endLine, refusedLine}
 
 -- ---- Limits
@@ -20,12 +20,19 @@ use Rattle.lines.specs.Lines.{lineRoom, blockText, endLine, refusedLine}
 abbrev pub mostBytes : ℕ
 mostBytes = 32_768
 
--- The letters and the ends that are lent to each block.
+-- The letters and the ends that are lent to each block, and (02, Ticket 1) the bytes of names and
+-- the ends of names, of which none is printed.
 abbrev pub lettersLent : ℕ
 lettersLent = 32_768
 
 abbrev pub endsLent : ℕ
 endsLent = 4_096
+
+abbrev pub nameBytesLent : ℕ
+nameBytesLent = 32_768
+
+abbrev pub nameEndsLent : ℕ
+nameEndsLent = 4_096
 
 -- The text of a block is no longer: its line, its letters, and the end of each read's line.
 abbrev pub textRoom : ℕ
@@ -55,7 +62,9 @@ windowOf rest = take mostBytes rest
 -- Decoding the block at the window's start.
 unfoldable pub listedAnswer : (bases : ℕ) (reference window : List ℕ) → Walk BlockDivision
 listedAnswer bases reference window =
-    decodeAnswer bases reference window (replicate lettersLent 0) (replicate endsLent 0)
+    decodeAnswer bases reference window
+    (buffersOf (replicate lettersLent 0) (replicate endsLent 0) (replicate nameBytesLent 0)
+    (replicate nameEndsLent 0))
 
 -- What is printed of it, its index in the file being `block`: the block, or the refusal.
 unfoldable pub answerText : (bases : ℕ) (reference window : List ℕ) (block : ℕ)

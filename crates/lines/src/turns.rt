@@ -14,6 +14,8 @@ ghost use Rattle.base.specs.Paste.{pasted};
 ghost use Rattle.lines.specs.Listing.{
   lettersLent,
   endsLent,
+  nameBytesLent,
+  nameEndsLent,
   textRoom,
   referenceRefused,
   windowOf,
@@ -29,6 +31,10 @@ pub const MAX_BYTES: usize = 32_768;
 pub const LETTERS_LENT: usize = 32_768;
 
 pub const ENDS_LENT: usize = 4_096;
+
+pub const NAME_BYTES_LENT: usize = 32_768;
+
+pub const NAME_ENDS_LENT: usize = 4_096;
 
 // A block line of 145 bytes, the letters, and the end of each read's line.
 pub const TEXT_ROOM: usize = 37_009;
@@ -61,10 +67,14 @@ pub fn list_block(
     block: u64,
     letters: &mut [u8],
     ends: &mut [u32],
+    names: &mut [u8],
+    name_ends: &mut [u32],
     text: &mut [u8],
 ) -> Turn
     requires { ⌜ length (now letters) ≡ lettersLent ⌝ }
     requires { ⌜ length (now ends) ≡ endsLent ⌝ }
+    requires { ⌜ length (now names) ≡ nameBytesLent ⌝ }
+    requires { ⌜ length (now «name_ends») ≡ nameEndsLent ⌝ }
     requires { ⌜ textRoom ≤ length (now text) ⌝ }
     ensures { λ r. ⌜ (now (text .exit)
         ≡ pasted (now (text .entry)) 0
@@ -75,7 +85,7 @@ pub fn list_block(
         × (r .moved ≤ length (now (window .entry))) ⌝ }
 {
     let id = ora::block_id(window);
-    let outcome = ora::decode(bases, reference, window, letters, ends);
+    let outcome = ora::decode(bases, reference, window, letters, ends, names, name_ends);
     match outcome {
         BlockOutcome::Refused(number, read) => {
             let size = put_refused_line(number, block, read, text, 0);
@@ -104,10 +114,14 @@ pub fn list_left(
     block: u64,
     letters: &mut [u8],
     ends: &mut [u32],
+    names: &mut [u8],
+    name_ends: &mut [u32],
     text: &mut [u8],
 ) -> Turn
     requires { ⌜ length (now letters) ≡ lettersLent ⌝ }
     requires { ⌜ length (now ends) ≡ endsLent ⌝ }
+    requires { ⌜ length (now names) ≡ nameBytesLent ⌝ }
+    requires { ⌜ length (now «name_ends») ≡ nameEndsLent ⌝ }
     requires { ⌜ textRoom ≤ length (now text) ⌝ }
     ensures { λ r. ⌜ (now (text .exit)
         ≡ pasted (now (text .entry)) 0
@@ -125,7 +139,17 @@ pub fn list_left(
         };
     }
     let window = window_of(left);
-    list_block(bases, reference, window, block, letters, ends, text)
+    list_block(
+        bases,
+        reference,
+        window,
+        block,
+        letters,
+        ends,
+        names,
+        name_ends,
+        text,
+    )
 }
 
 // The window of what is left of a file.

@@ -7,7 +7,13 @@ use lines::turns::list_left;
 ghost use mathlib.Core.Path.{_≡_};
 ghost use Prim.Native.Nat.{_≤_};
 ghost use lib.ListN.{length};
-ghost use Rattle.lines.specs.Listing.{lettersLent, endsLent, textRoom};
+ghost use Rattle.lines.specs.Listing.{
+  lettersLent,
+  endsLent,
+  nameBytesLent,
+  nameEndsLent,
+  textRoom,
+};
 
 // Lists what is left of a file after `block` blocks. Gives how far the window moves; 0 where the
 // listing ends.
@@ -18,14 +24,28 @@ fn list_next(
     block: u64,
     letters: &mut [u8],
     ends: &mut [u32],
+    names: &mut [u8],
+    name_ends: &mut [u32],
     text: &mut [u8],
 ) -> usize
     requires { ⌜ length (now letters) ≡ lettersLent ⌝ }
     requires { ⌜ length (now ends) ≡ endsLent ⌝ }
+    requires { ⌜ length (now names) ≡ nameBytesLent ⌝ }
+    requires { ⌜ length (now «name_ends») ≡ nameEndsLent ⌝ }
     requires { ⌜ textRoom ≤ length (now text) ⌝ }
     ensures { λ r. ⌜ r ≤ length (now (left .entry)) ⌝ }
 {
-    let turn = list_left(bases, reference, left, block, letters, ends, text);
+    let turn = list_left(
+        bases,
+        reference,
+        left,
+        block,
+        letters,
+        ends,
+        names,
+        name_ends,
+        text,
+    );
     let size = turn.size;
     if put_text(&text[..size]) {
         return turn.moved;
@@ -44,11 +64,15 @@ pub fn list_blocks(
     filled: usize,
     letters: &mut [u8],
     ends: &mut [u32],
+    names: &mut [u8],
+    name_ends: &mut [u32],
     text: &mut [u8],
 )
     requires { ⌜ filled ≤ length (now buffer) ⌝ }
     requires { ⌜ length (now letters) ≡ lettersLent ⌝ }
     requires { ⌜ length (now ends) ≡ endsLent ⌝ }
+    requires { ⌜ length (now names) ≡ nameBytesLent ⌝ }
+    requires { ⌜ length (now «name_ends») ≡ nameEndsLent ⌝ }
     requires { ⌜ textRoom ≤ length (now text) ⌝ }
 {
     let mut at: usize = 0;
@@ -60,7 +84,17 @@ pub fn list_blocks(
             return;
         };
         let left = &buffer[from..to];
-        let moved = list_next(bases, reference, left, block, letters, ends, text);
+        let moved = list_next(
+            bases,
+            reference,
+            left,
+            block,
+            letters,
+            ends,
+            names,
+            name_ends,
+            text,
+        );
         if moved == 0 {
             return;
         }

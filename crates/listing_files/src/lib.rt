@@ -11,6 +11,8 @@ use integers::u64_at;
 use lines::put_refused_line;
 use lines::turns::ENDS_LENT;
 use lines::turns::LETTERS_LENT;
+use lines::turns::NAME_BYTES_LENT;
+use lines::turns::NAME_ENDS_LENT;
 use lines::turns::TEXT_ROOM;
 use lines::turns::reference_refused;
 use windows::Filled;
@@ -56,6 +58,8 @@ fn list_opened(fd: i32, path: &[u8], reference: &[u8]) {
     let mut buffer = io::large_buffer();
     let mut letters = letter_room();
     let mut ends = end_room();
+    let mut names = name_room();
+    let mut name_ends = name_end_room();
     let mut text = text_room();
     let Filled::To(filled) = fill(fd, &mut buffer, 0) else {
         put_fault(path);
@@ -75,6 +79,8 @@ fn list_opened(fd: i32, path: &[u8], reference: &[u8]) {
         filled,
         &mut letters,
         &mut ends,
+        &mut names,
+        &mut name_ends,
         &mut text,
     );
 }
@@ -97,6 +103,18 @@ fn end_room() -> [u32; ENDS_LENT]
     ensures { λ r. ⌜ 4_096 ≡ length r ⌝ }
 {
     [0; ENDS_LENT]
+}
+
+fn name_room() -> [u8; NAME_BYTES_LENT]
+    ensures { λ r. ⌜ 32_768 ≡ length r ⌝ }
+{
+    [0; NAME_BYTES_LENT]
+}
+
+fn name_end_room() -> [u32; NAME_ENDS_LENT]
+    ensures { λ r. ⌜ 4_096 ≡ length r ⌝ }
+{
+    [0; NAME_ENDS_LENT]
 }
 
 fn text_room() -> [u8; TEXT_ROOM]

@@ -23,9 +23,9 @@ ghost use Rattle.format.specs.BlockAnswer.{
   idAnswer,
   lengthAnswer,
   validatedBlock,
+  buffersOf,
   decoded,
-  decodedLetters,
-  decodedEnds,
+  decodedBuffers,
 };
 ghost use Rattle.format.specs.FileAnswer.{validated};
 ghost use Rattle.format.specs.EncodeAnswer.{lent, encoded, encodedBuffer};
@@ -34,7 +34,8 @@ ghost use Rattle.ora.specs.Answers.{spanOf};
 
 // ---- Reading
 
-// Judges the block at the input's start, with 1 to 21: its length and counts, or the refusal.
+// Judges the block at the input's start, with 1 to 21 and 40: its length and counts, or the
+// refusal.
 pub fn validate_block(bases: u64, reference: &[u8], input: &[u8]) -> BlockOutcome
     ensures { λ r. ⌜ outcomeOfBlock r
         ≡ validatedBlock bases (now (reference .entry)) (now (input .entry)) ⌝ }
@@ -42,32 +43,35 @@ pub fn validate_block(bases: u64, reference: &[u8], input: &[u8]) -> BlockOutcom
     blocks::validate_block(bases, reference, input)
 }
 
-// Decodes the block at the input's start, with 1 to 22: the letters of its reads one after the
-// other, and the end of each, counted in letters. What lies past them stays; a refusal changes
-// nothing.
+// Decodes the block at the input's start, with 1 to 22 and 40: the letters of its reads one after
+// the other and the end of each, counted in letters; its names one after the other and the end of
+// each, counted in bytes, where flag 0x8 says that they are stored. What lies past them stays; a
+// refusal changes nothing.
 pub fn decode(
     bases: u64,
     reference: &[u8],
     input: &[u8],
     letters: &mut [u8],
     ends: &mut [u32],
+    names: &mut [u8],
+    name_ends: &mut [u32],
 ) -> BlockOutcome
     ensures { λ r. ⌜ (outcomeOfBlock r
-        ≡ decoded bases (now (reference .entry)) (now (input .entry)) (now (letters .entry))
-        (now (ends .entry)))
-        × (now (letters .exit)
-        ≡ decodedLetters bases (now (reference .entry)) (now (input .entry)) (now (letters .entry))
-        (now (ends .entry)))
-        × (now (ends .exit)
-        ≡ decodedEnds bases (now (reference .entry)) (now (input .entry)) (now (letters .entry))
-        (now (ends .entry))) ⌝ }
+        ≡ decoded bases (now (reference .entry)) (now (input .entry))
+        (buffersOf (now (letters .entry)) (now (ends .entry)) (now (names .entry))
+        (now («name_ends» .entry))))
+        × (buffersOf (now (letters .exit)) (now (ends .exit)) (now (names .exit))
+        (now («name_ends» .exit))
+        ≡ decodedBuffers bases (now (reference .entry)) (now (input .entry))
+        (buffersOf (now (letters .entry)) (now (ends .entry)) (now (names .entry))
+        (now («name_ends» .entry)))) ⌝ }
 {
-    blocks::decode(bases, reference, input, letters, ends)
+    blocks::decode(bases, reference, input, letters, ends, names, name_ends)
 }
 
-// Judges a file block by block, with 1 to 21: the number of its blocks and the sums of their counts
-// modulo 2 ^ 64, or the first refusal with the block's index. It is this answer that demand 3
-// speaks of.
+// Judges a file block by block, with 1 to 21 and 40: the number of its blocks and the sums of their
+// counts modulo 2 ^ 64, or the first refusal with the block's index. It is this answer that demand
+// 3 speaks of.
 pub fn validate(bases: u64, reference: &[u8], file: &[u8]) -> FileOutcome
     ensures { λ r. ⌜ (outcomeOfFile r
         ≡ validated bases (now (reference .entry)) (now (file .entry)))
@@ -79,15 +83,17 @@ pub fn validate(bases: u64, reference: &[u8], file: &[u8]) -> FileOutcome
 
 // ---- Writing
 
-// Writes the block that the fixed rule makes of these reads to the start of `out`, with 1 and 30 to
-// 34: its length in bytes, or the refusal. Letters and ends are as decode gives them; the other
-// four are proposals, one element a read. What lies past the block stays; a refusal changes
-// nothing.
+// Writes the block that the fixed rule makes of these reads and names to the start of `out`, with
+// 1, 30 to 34 and 41: its length in bytes, or the refusal. Letters, names and the ends of both are
+// as decode gives them; the other four are proposals, one element a read. What lies past the block
+// stays; a refusal changes nothing.
 pub fn encode(
     bases: u64,
     reference: &[u8],
     letters: &[u8],
     ends: &[u32],
+    names: &[u8],
+    name_ends: &[u32],
     positions: &[u32],
     strands: &[u8],
     lefts: &[u8],
@@ -98,13 +104,15 @@ pub fn encode(
 ) -> EncodeOutcome
     ensures { λ r. ⌜ (outcomeOfEncode r
         ≡ encoded bases (now (reference .entry))
-        (lent (now (letters .entry)) (now (ends .entry)) (now (positions .entry))
-        (now (strands .entry)) (now (lefts .entry)) (now (rights .entry)) «b_id» «c_time»)
+        (lent (now (letters .entry)) (now (ends .entry)) (now (names .entry))
+        (now («name_ends» .entry)) (now (positions .entry)) (now (strands .entry))
+        (now (lefts .entry)) (now (rights .entry)) «b_id» «c_time»)
         (now (out .entry)))
         × (now (out .exit)
         ≡ encodedBuffer bases (now (reference .entry))
-        (lent (now (letters .entry)) (now (ends .entry)) (now (positions .entry))
-        (now (strands .entry)) (now (lefts .entry)) (now (rights .entry)) «b_id» «c_time»)
+        (lent (now (letters .entry)) (now (ends .entry)) (now (names .entry))
+        (now («name_ends» .entry)) (now (positions .entry)) (now (strands .entry))
+        (now (lefts .entry)) (now (rights .entry)) «b_id» «c_time»)
         (now (out .entry))) ⌝ }
 {
     encoder::encode(
@@ -112,6 +120,8 @@ pub fn encode(
         reference,
         letters,
         ends,
+        names,
+        name_ends,
         positions,
         strands,
         lefts,

@@ -1,20 +1,24 @@
 //! 01, "Records" and "Numbers of refusal": a whole block. "Smallest step
-//! first: 1 to 11, then DNA group by group, then 21, 22." "Reading takes the
-//! block at its input's start; what follows the bodies isn't part of it."
+//! first: 1 to 11, then DNA group by group, then 21, 22." 02, Ticket 1, adds 40
+//! "after 21, before 22". "Reading takes the block at its input's start; what
+//! follows the bodies isn't part of it."
 
-use crate::header::{Header, DNA, N, SIZE};
+use crate::header::{Header, DNA, N, NAMES, SIZE};
 use crate::lengths::{bit, bits_past, read_lengths};
+use crate::names::read_names;
 use crate::records::{read_record, Bits, Cursor, Record};
 use crate::reference::Reference;
 use crate::refusal::*;
 
-/// A block that earns none of 2 to 21.
+/// A block that earns none of 2 to 21 and 40.
 pub struct Block {
     pub length: u64,
     pub records: Vec<Record>,
+    /// One a read; none where they stay unread.
+    pub names: Vec<Vec<u8>>,
 }
 
-/// Numbers 2 to 21.
+/// Numbers 2 to 21 and 40.
 pub fn read_block(reference: &Reference, input: &[u8]) -> Result<Block, Refusal> {
     let header = Header::read(input)?;
     let lengths = read_lengths(&header, header.section(input, SIZE))?;
@@ -31,7 +35,12 @@ pub fn read_block(reference: &Reference, input: &[u8]) -> Result<Block, Refusal>
     if !dna.at_end() {
         return Err(Refusal::of_block(DNA_TRAILING));
     }
-    Ok(Block { length: header.block_length(), records })
+    // 40; "without 0x8 names stay unread".
+    let names = match header.names_stored() {
+        true => read_names(header.section(input, NAMES), records.len())?,
+        false => Vec::new(),
+    };
+    Ok(Block { length: header.block_length(), records, names })
 }
 
 /// "Groups of 8, the last of 1 to 8: bytes Perfect, Forward, with-N, pos_t;
@@ -87,6 +96,10 @@ impl Block {
         self.records.iter().map(|record| record.length).sum()
     }
 
+    pub fn name_bytes(&self) -> u64 {
+        self.names.iter().map(|name| name.len() as u64).sum()
+    }
+
     /// "Counts of a block: reads, letters, entries, and differences ... All
     /// are sums over its reads."
     pub fn outcome(&self, reference: &Reference) -> Outcome {
@@ -103,7 +116,7 @@ impl Block {
     }
 }
 
-/// Judges the block at the input's start: numbers 1 to 21.
+/// Judges the block at the input's start: numbers 1 to 21 and 40.
 pub fn validate_block(reference_bases: u64, reference: &[u8], input: &[u8]) -> Outcome {
     let judge = || {
         let reference = Reference::new(reference_bases, reference)?;
@@ -113,32 +126,44 @@ pub fn validate_block(reference_bases: u64, reference: &[u8], input: &[u8]) -> O
     judge().unwrap_or_else(|refusal: Refusal| refusal.into())
 }
 
-/// Reads the block at the input's start: numbers 1 to 22. Letters go out "in
-/// ASCII capitals", and `ends` "gets the end of each read, counted in
-/// letters". What lies past them, and all of both on a refusal, stays.
+/// Reads the block at the input's start: numbers 1 to 21, 40 and 22. Letters
+/// go out "in ASCII capitals", and `ends` "gets the end of each read, counted
+/// in letters"; so too the names and, counted in bytes, the end of each name.
+/// What lies past them, and all four buffers on a refusal, stays.
 pub fn decode(
     reference_bases: u64,
     reference: &[u8],
     input: &[u8],
     letters: &mut [u8],
     ends: &mut [u32],
+    names: &mut [u8],
+    name_ends: &mut [u32],
 ) -> Outcome {
     let mut read = || {
         let reference = Reference::new(reference_bases, reference)?;
         let block = read_block(&reference, input)?;
-        // 22: "letters or ends buffer too small".
-        let too_many_letters = block.letters() > letters.len() as u64;
-        if too_many_letters || block.records.len() > ends.len() {
+        // 22: "letters or ends buffer too small"; it "covers names and name
+        // ends".
+        let letters_fit = block.letters() <= letters.len() as u64;
+        let names_fit = block.name_bytes() <= names.len() as u64;
+        let reads_fit = block.records.len() <= ends.len() && block.names.len() <= name_ends.len();
+        if !(letters_fit && names_fit && reads_fit) {
             return Err(Refusal::of_block(CAPACITY_TOO_SMALL));
         }
-        let mut end = 0;
-        for (index, record) in block.records.iter().enumerate() {
-            let read = record.letters(&reference);
-            letters[end..end + read.len()].copy_from_slice(&read);
-            end += read.len();
-            ends[index] = end as u32;
-        }
+        let reads = block.records.iter().map(|record| record.letters(&reference));
+        write_parts(reads, letters, ends);
+        write_parts(block.names.iter().cloned(), names, name_ends);
         Ok(block.outcome(&reference))
     };
     read().unwrap_or_else(|refusal: Refusal| refusal.into())
+}
+
+/// Parts one after the other, and the end of each.
+fn write_parts(parts: impl Iterator<Item = Vec<u8>>, out: &mut [u8], ends: &mut [u32]) {
+    let mut end = 0;
+    for (part, part_end) in parts.zip(ends) {
+        out[end..end + part.len()].copy_from_slice(&part);
+        end += part.len();
+        *part_end = end as u32;
+    }
 }

@@ -17,6 +17,7 @@ pub struct Hand {
     pub reads: i32,
     pub raw_dna: u32,
     pub dna: Vec<u8>,
+    pub names: Vec<u8>,
     pub sizes: Vec<u8>,
     pub n: Vec<u8>,
 }
@@ -37,10 +38,11 @@ impl Hand {
     }
 
     pub fn bytes(&self) -> Vec<u8> {
-        let mut block = vec![0; 121];
+        let mut block = [0; 121];
         let mut put = |at: usize, bytes: &[u8]| block[at..at + bytes.len()].copy_from_slice(bytes);
         put(0, &[0x49, 0x7C, 121]);
         put(6, &(self.dna.len() as u32).to_le_bytes());
+        put(10, &(self.names.len() as u32).to_le_bytes());
         put(22, &(self.sizes.len() as u32).to_le_bytes());
         put(26, &(self.n.len() as u32).to_le_bytes());
         put(42, &self.flags.to_le_bytes());
@@ -49,11 +51,12 @@ impl Hand {
         put(54, &20505u16.to_le_bytes());
         put(56, &7u64.to_le_bytes());
         put(73, &self.raw_dna.to_le_bytes());
-        [block, self.dna.clone(), self.sizes.clone(), self.n.clone()].concat()
+        [&block[..], &self.dna, &self.names, &self.sizes, &self.n].concat()
     }
 }
 
 /// A block that a case reads, under its reference.
+#[derive(Clone)]
 pub struct Input {
     pub label: String,
     pub bases: u64,
@@ -208,7 +211,8 @@ pub fn header_edges() -> Vec<Input> {
         ("all lengths 2^32-1", 6, &[0xFF; 36]),
         ("l_m3 1", 38, &[1, 0, 0, 0]),
         ("dna one less, names one more", 6, &[9, 0, 0, 0, 1]),
-        ("flags all but 40 and 80", 42, &[0x3F, 0xFF, 0xFF, 0xFF]),
+        ("flags all but 8, 40 and 80", 42, &[0x37, 0xFF, 0xFF, 0xFF]),
+        ("flags all but 40 and 80, no names", 42, &[0x3F, 0xFF, 0xFF, 0xFF]),
         ("flag 40", 42, &[0x41]),
         ("flag 80", 42, &[0x81]),
         ("flag 1 not set", 42, &[0x04]),
@@ -299,7 +303,7 @@ pub fn flag_bytes() -> Vec<Input> {
     inputs
 }
 
-/// Perfect reads of 32,769 and 65,537 letters with N lists in words.
+/// Perfect reads of 32,769 letters or more with N lists in words.
 pub fn long_n_lists(rng: &mut Prng) -> Vec<Input> {
     let lists: [(&str, i32, &[u8]); 9] = [
         ("N at 32768, the last", 32_769, &[1, 0x00, 0x80, 0x00, 0x00]),
@@ -309,7 +313,7 @@ pub fn long_n_lists(rng: &mut Prng) -> Vec<Input> {
         ("later offset 0 after words", 32_769, &[2, 0x00, 0x80, 0x00, 0x00, 0x00, 0x00]),
         ("1 and 32768 leaves", 32_769, &[2, 0x01, 0x00, 0x00, 0x80]),
         ("later offset 32768", 65_537, &[2, 0x00, 0x80, 0x00, 0x00, 0x00, 0x80, 0x00, 0x00]),
-        ("word 32769, inside the read", 65_537, &[1, 0x01, 0x80, 0x00, 0x00]),
+        ("word 32769, inside the read", 32_770, &[1, 0x01, 0x80, 0x00, 0x00]),
         ("third word leaves", 65_537, &[1, 0x00, 0x80, 0x00, 0x80, 0x00, 0x80]),
     ];
     let mut inputs = Vec::new();

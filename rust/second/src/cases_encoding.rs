@@ -2,8 +2,10 @@
 //! random candidates, and the writer's refusals.
 
 use crate::cases_by_hand::{BASES, REFERENCE};
+use crate::cases_names::{named_calls, refused_calls};
 use crate::corpus::{stream, Case};
 use crate::generator::{generate_reference, ReferencePlan};
+use crate::name_faults::GIVEN_FAULTS;
 use crate::prng::Prng;
 use crate::proposals::{random_call, spoil_call, EncodeCall, Proposal};
 
@@ -15,7 +17,7 @@ fn block_length(call: &EncodeCall) -> usize {
 pub fn encode_cases() -> Vec<Case> {
     let rng = &mut stream("encode");
     let mut calls = calls_by_hand(rng);
-    for index in 0..80 {
+    for index in 0..70 {
         let bases = rng.pick(&[0, 1, 12, 64, 130, 300, 300, 600, 600]);
         let reference = generate_reference(rng, bases);
         let max_length = rng.pick(&[1, 6, 40, 150, 400]);
@@ -27,14 +29,20 @@ pub fn encode_cases() -> Vec<Case> {
         call.capacity = block_length(call) + rng.pick(&[0, 1, 7, 40]);
     }
     calls.extend(ends_by_hand());
-    for number in [1, 31, 32, 33, 34] {
+    for number in [1, 31, 32, 33, 34, 41] {
         calls.extend(spoiled_calls(rng, &[number], 6));
     }
     for numbers in [[1, 31], [31, 32], [31, 33], [31, 34], [32, 33], [32, 34], [33, 34], [1, 34]] {
         calls.extend(spoiled_calls(rng, &numbers, 2));
     }
+    for numbers in [[1, 41], [31, 41], [32, 41], [33, 41], [34, 41]] {
+        calls.extend(spoiled_calls(rng, &numbers, 2));
+    }
+    calls.extend(misnamed_calls(rng));
     calls.extend(written_by_hand());
     calls.extend(plain_calls_by_hand());
+    calls.extend(named_calls());
+    calls.extend(refused_calls());
     calls.iter().map(|(label, call)| Case::encoding(label, call)).collect()
 }
 
@@ -48,6 +56,23 @@ fn spoiled_calls(rng: &mut Prng, numbers: &[u32], count: usize) -> Vec<(String, 
         if numbers.iter().all(|&number| spoil_call(&mut call, number, length, rng)) {
             calls.push((format!("faults {numbers:?}"), call));
         }
+    }
+    calls
+}
+
+/// Each of the faults of names.
+fn misnamed_calls(rng: &mut Prng) -> Vec<(String, EncodeCall)> {
+    let mut calls = Vec::new();
+    for (label, fault) in GIVEN_FAULTS {
+        let call = loop {
+            let reference = generate_reference(rng, 12);
+            let mut call = random_call(rng, &reference, 4, 9);
+            call.capacity = block_length(&call);
+            if fault(&mut call, rng).is_some() {
+                break call;
+            }
+        };
+        calls.push((format!("fault 41: {label}"), call));
     }
     calls
 }
@@ -174,7 +199,8 @@ fn ends_by_hand() -> Vec<(String, EncodeCall)> {
         call.strands = vec![1; ends.len()];
         call.lefts = vec![0; ends.len()];
         call.rights = vec![0; ends.len()];
-        call.capacity = 150;
+        call = call.named(&vec!["a"; ends.len()]);
+        call.capacity = 170;
         (format!("letters {letters:?} ends {ends:?}"), call)
     };
     edges.iter().map(call).collect()
@@ -216,14 +242,14 @@ fn written_by_hand() -> Vec<(String, EncodeCall)> {
     calls
 }
 
-/// Reads without a place, b_id and c_time 0: flag 0x1, the writer's refusals,
-/// each with those after it, and a block that just fits.
+/// Reads without a place, all of the name a, b_id and c_time 0: flag 0x1, the
+/// writer's refusals, each with those after it, and a block that just fits.
 fn plain_calls_by_hand() -> Vec<(String, EncodeCall)> {
     // Label, bases, letters, ends, candidates, capacity.
     type Plain = (&'static str, u64, &'static [u8], &'static [u32], usize, usize);
     let calls: &[Plain] = &[
         // Equal reads: flag 0x1, l_read, no size section. No reads: neither.
-        ("equal reads", BASES, b"ACGT", &[2, 4], 2, 140),
+        ("equal reads", BASES, b"ACGT", &[2, 4], 2, 160),
         ("no reads, b_id 0", BASES, b"", &[], 0, 128),
         // 1: 13 bases take four bytes.
         ("13 bases in 3 bytes", 13, b"", &[], 0, 0),
@@ -231,9 +257,9 @@ fn plain_calls_by_hand() -> Vec<(String, EncodeCall)> {
         ("no candidate, end 0, letter 9", BASES, &[9], &[0], 0, 0),
         ("end past the letters, letter 9", BASES, &[9], &[2], 1, 0),
         ("letter 9, no room", BASES, &[9], &[1], 1, 0),
-        // 34: the block takes 128 bytes.
-        ("block one byte too long", BASES, b"A", &[1], 1, 127),
-        ("block just fits", BASES, b"A", &[1], 1, 128),
+        // 34: the block takes 143 bytes.
+        ("block one byte too long", BASES, b"A", &[1], 1, 142),
+        ("block just fits", BASES, b"A", &[1], 1, 143),
     ];
     let call = |&(label, bases, letters, ends, candidates, capacity): &Plain| {
         let mut call = EncodeCall::new(&sums_reference(), &[], 0, 0);
@@ -244,6 +270,7 @@ fn plain_calls_by_hand() -> Vec<(String, EncodeCall)> {
         call.strands = vec![0; candidates];
         call.lefts = vec![0; candidates];
         call.rights = vec![0; candidates];
+        call = call.named(&vec!["a"; ends.len()]);
         call.capacity = capacity;
         (label.to_string(), call)
     };

@@ -4,9 +4,11 @@
 use crate::cases_blocks::*;
 use crate::cases_by_hand::*;
 use crate::cases_dna::{dna_by_hand, n_word_leaves};
-use crate::corpus::{stream, Case, CaseKind, MAX_ENDS, MAX_LETTERS};
+use crate::cases_names::*;
+use crate::corpus::*;
 use crate::generator::*;
-use crate::mutators::{damage, spoil, spoil_all, spoil_record};
+use crate::mutators::{damage, spoil, spoil_all, spoil_record, BLOCK_NUMBERS};
+use crate::name_faults::SECTION_FAULTS;
 use crate::prng::Prng;
 
 /// Two faults in one record, each pair that a record can have.
@@ -18,7 +20,7 @@ fn record_pairs(rng: &mut Prng, each: usize) -> Vec<Input> {
             let apart = [(13, 15), (13, 16), (13, 17), (15, 18), (16, 18), (17, 18)];
             let mut made = if apart.contains(&(low, high)) { each } else { 0 };
             while made < each {
-                let shape = Shape { max_reads: 2, ..small_shape(rng) };
+                let shape = Shape { max_reads: 2, max_name: 3, ..small_shape(rng) };
                 let mut plan = generate(rng, shape);
                 let Some(read) = plan.lengths.len().checked_sub(1) else { continue };
                 let numbers = [high, low];
@@ -35,12 +37,16 @@ fn record_pairs(rng: &mut Prng, each: usize) -> Vec<Input> {
     inputs
 }
 
+/// Names are short, but for a few of up to 255 bytes in blocks of few reads.
 fn small_shape(rng: &mut Prng) -> Shape {
+    let max_reads = rng.pick(&[1, 2, 3, 9, 18]);
+    let long = max_reads <= 3 && rng.once_in(8);
     Shape {
         bases: rng.pick(&[0, 1, 12, 40, 65, 130, 300, 300]),
-        max_reads: rng.pick(&[1, 2, 3, 9, 18]),
+        max_reads,
         max_length: rng.pick(&[1, 4, 20, 40, 150]),
         max_carried: 4,
+        max_name: if long { 255 } else { rng.pick(&[1, 6, 12, 24, 36]) },
     }
 }
 
@@ -54,13 +60,17 @@ fn generated(rng: &mut Prng, count: usize) -> Vec<(Input, Plan)> {
         .collect()
 }
 
-/// Generated blocks with one fault of each number from `low` to `high`.
-fn single_faults(rng: &mut Prng, low: u32, high: u32, each: usize) -> Vec<Input> {
+/// Generated blocks with one fault of each number.
+fn single_faults(
+    rng: &mut Prng,
+    numbers: impl IntoIterator<Item = u32>,
+    each: usize,
+) -> Vec<Input> {
     let mut inputs = Vec::new();
-    for number in low..=high {
+    for number in numbers {
         let mut made = 0;
         while made < each {
-            let shape = small_shape(rng);
+            let shape = Shape { max_name: rng.pick(&[1, 3, 9]), ..small_shape(rng) };
             let mut plan = generate(rng, shape);
             if spoil(&mut plan, number, rng).is_some() {
                 inputs.push(Input::of_plan(format!("fault {number}"), &plan));
@@ -71,12 +81,31 @@ fn single_faults(rng: &mut Prng, low: u32, high: u32, each: usize) -> Vec<Input>
     inputs
 }
 
+/// Generated blocks with each of the faults of a names section.
+fn names_faults(rng: &mut Prng) -> Vec<Input> {
+    let mut inputs = Vec::new();
+    for (label, fault) in SECTION_FAULTS {
+        let plan = loop {
+            let shape =
+                Shape { bases: 4, max_reads: 3, max_length: 4, max_name: 9, ..small_shape(rng) };
+            let mut plan = generate(rng, shape);
+            let reads = plan.lengths.len();
+            let names = plan.names.as_mut().filter(|_| reads > 0);
+            if names.is_some_and(|names| fault(names, rng).is_some()) {
+                break plan;
+            }
+        };
+        inputs.push(Input::of_plan(format!("fault 40: {label}"), &plan));
+    }
+    inputs
+}
+
 fn double_faults(rng: &mut Prng, count: usize) -> Vec<Input> {
     let mut inputs = Vec::new();
     while inputs.len() < count {
-        let shape = Shape { max_reads: rng.pick(&[1, 1, 2, 9]), ..small_shape(rng) };
+        let shape = Shape { max_reads: rng.pick(&[1, 1, 2, 9]), max_name: 3, ..small_shape(rng) };
         let mut plan = generate(rng, shape);
-        let numbers = [rng.range(1, 21) as u32, rng.range(9, 21) as u32];
+        let numbers = [rng.pick(&BLOCK_NUMBERS), rng.pick(&BLOCK_NUMBERS[8..])];
         if numbers[0] != numbers[1] && spoil_all(&mut plan, &numbers, rng).len() == 2 {
             inputs.push(Input::of_plan(format!("faults {} {}", numbers[0], numbers[1]), &plan));
         }
@@ -115,8 +144,8 @@ pub fn sections_cases() -> Vec<Case> {
         }
         inputs.push(input);
     }
-    inputs.extend(single_faults(rng, 2, 8, 4));
-    inputs.extend(single_faults(rng, 9, 21, 1));
+    inputs.extend(single_faults(rng, 2..=8, 4));
+    inputs.extend(single_faults(rng, (9..=21).chain([40]), 1));
     inputs.extend(truncated(rng, 6));
     inputs.extend(damaged(rng, 6));
     inputs.iter().map(|input| input.case(CaseKind::Sections)).collect()
@@ -137,7 +166,7 @@ pub fn lengths_cases() -> Vec<Case> {
             let length = if same { lengths[lengths.len() - 1] } else { rng.pick(&marks[..top]) };
             lengths.push(length);
         }
-        let shape = Shape { bases: 0, max_reads: 0, max_length: 0, max_carried: 2 };
+        let shape = Shape { bases: 0, max_reads: 0, max_length: 0, max_carried: 2, max_name: 1 };
         let mut plan = generate_with_lengths(rng, shape, &reference, lengths);
         // Lengths need no DNA section.
         plan.groups.clear();
@@ -147,9 +176,9 @@ pub fn lengths_cases() -> Vec<Case> {
         }
         inputs.push(Input::of_plan(format!("generated {index}"), &plan));
     }
-    inputs.extend(single_faults(rng, 2, 10, 3));
-    inputs.extend(single_faults(rng, 9, 9, 12));
-    inputs.extend(single_faults(rng, 11, 21, 1));
+    inputs.extend(single_faults(rng, 2..=10, 3));
+    inputs.extend(single_faults(rng, [9], 12));
+    inputs.extend(single_faults(rng, (11..=21).chain([40]), 1));
     inputs.extend(sizes_by_hand().iter().map(|(label, hand)| Input::by_hand(label, hand)));
     // The reference plays no part.
     for input in &mut inputs {
@@ -165,7 +194,7 @@ pub fn decode_cases() -> Vec<Case> {
     inputs.extend(more_by_hand());
     inputs.extend(header_edges());
     inputs.extend(generated(rng, 60).into_iter().map(|(input, _)| input));
-    inputs.extend(single_faults(rng, 1, 21, 3));
+    inputs.extend(single_faults(rng, BLOCK_NUMBERS, 3));
     inputs.extend(double_faults(rng, 30));
     inputs.extend(damaged(rng, 30));
     inputs.extend(truncated(rng, 6));
@@ -173,7 +202,8 @@ pub fn decode_cases() -> Vec<Case> {
         .iter()
         .map(|input| {
             let letters = 2048 + rng.below(8) as usize;
-            input.case(CaseKind::Decode).lending(letters, 24)
+            let names = 770 + rng.below(8) as usize;
+            input.case(CaseKind::Decode).lending(letters, 24).lending_names(names, 20)
         })
         .collect();
     cases.extend(capacity_cases(rng));
@@ -181,28 +211,40 @@ pub fn decode_cases() -> Vec<Case> {
     let by_hand = dna_by_hand().into_iter().chain([n_word_leaves()]);
     cases.extend(by_hand.map(|input| input.case(CaseKind::Decode).lending(16, 12)));
     cases.extend(decode_by_hand());
+    let names = [stored_names_by_hand(), refused_names_by_hand()].concat().into_iter();
+    let lend = |input: Input| input.case(CaseKind::Decode).lending(12, 12).lending_names(300, 12);
+    cases.extend(names.map(lend));
+    cases.extend(names_lent_by_hand());
     cases
 }
 
-/// Buffers that just fit, and one short in either.
+/// Buffers that just fit, and one short in each.
 pub fn capacity_cases(rng: &mut Prng) -> Vec<Case> {
     let mut cases = Vec::new();
     for (mut input, plan) in generated(rng, 8) {
-        let (letters, ends) = (plan.expected.letters.len(), plan.expected.ends.len());
-        let mut lend = |label: &str, letters, ends| {
+        let expected = &plan.expected;
+        let (letters, ends) = (expected.letters.len(), expected.ends.len());
+        let (names, name_ends) = (expected.names.len(), expected.name_ends.len());
+        let mut lend = |label: &str, letters, ends, names, name_ends| {
             input.label = label.to_string();
-            cases.push(input.case(CaseKind::Decode).lending(letters, ends));
+            let case = input.case(CaseKind::Decode).lending(letters, ends);
+            cases.push(case.lending_names(names, name_ends));
         };
-        lend("buffers just fit", letters, ends);
+        lend("buffers just fit", letters, ends, names, name_ends);
         if ends > 0 {
-            lend("letters one short", letters - 1, ends + 1);
-            lend("ends one short", letters + 1, ends - 1);
+            lend("letters one short", letters - 1, ends + 1, names + 1, name_ends);
+            lend("ends one short", letters + 1, ends - 1, names, name_ends + 1);
+        }
+        if name_ends > 0 {
+            lend("names one short", letters, ends + 1, names - 1, name_ends + 1);
+            lend("name ends one short", letters + 1, ends, names + 1, name_ends - 1);
         }
     }
     cases
 }
 
-/// A read of 32,768 letters; 4,096 reads, and 4,097 that find no room.
+/// A read of 32,768 letters; 4,096 reads, and 4,097 that find no room; 32,768
+/// bytes of names, and one more.
 pub fn full_buffer_cases(rng: &mut Prng) -> Vec<Case> {
     let reference = generate_reference(rng, 32_768);
     let lend = |label: &str, hand: Hand, letters, ends| {
@@ -222,8 +264,13 @@ pub fn full_buffer_cases(rng: &mut Prng) -> Vec<Case> {
         let label = format!("{reads} reads");
         cases.push(
             Case::reading(CaseKind::Decode, &label, 4, &reference.bytes, &input)
-                .lending(MAX_LETTERS, MAX_ENDS),
+                .lending(MAX_LETTERS, MAX_ENDS)
+                .lending_names(MAX_NAME_BYTES, MAX_NAME_ENDS),
         );
+    }
+    for (label, hand) in full_names() {
+        let case = Input::by_hand(label, &hand).case(CaseKind::Decode);
+        cases.push(case.lending(256, 256).lending_names(MAX_NAME_BYTES, MAX_NAME_ENDS));
     }
     cases
 }
@@ -231,14 +278,16 @@ pub fn full_buffer_cases(rng: &mut Prng) -> Vec<Case> {
 pub fn validate_block_cases() -> Vec<Case> {
     let rng = &mut stream("validate_block");
     let mut inputs = flag_bytes();
-    inputs.extend(generated(rng, 60).into_iter().map(|(input, _)| input));
-    inputs.extend(single_faults(rng, 1, 21, 3));
-    inputs.extend(double_faults(rng, 60));
+    inputs.extend(generated(rng, 66).into_iter().map(|(input, _)| input));
+    inputs.extend(single_faults(rng, BLOCK_NUMBERS, 3));
+    inputs.extend(names_faults(rng));
+    inputs.extend(double_faults(rng, 50));
     inputs.extend(record_pairs(rng, 2));
-    inputs.extend(damaged(rng, 50));
+    inputs.extend(damaged(rng, 40));
     inputs.extend(truncated(rng, 6));
     inputs.extend(long_n_lists(rng));
     inputs.extend(header_by_hand());
+    inputs.extend(stored_names_by_hand());
     inputs.iter().map(|input| input.case(CaseKind::ValidateBlock)).collect()
 }
 
@@ -269,9 +318,9 @@ pub fn validate_cases() -> Vec<Case> {
         let cut = rng.range(0, file.len() as u64) as usize;
         cases.push(case(&format!("file cut {index}"), &reference, &file[..cut]));
     }
-    for number in 1..=21 {
+    for number in BLOCK_NUMBERS {
         let mut made = 0;
-        while made < 3 {
+        while made < 2 {
             let (mut reference, mut plans) = drawn_file(rng);
             let Some(last) = (plans.len() as u64).checked_sub(1) else { continue };
             let spoiled = rng.range(0, last) as usize;
@@ -297,11 +346,14 @@ pub fn validate_cases() -> Vec<Case> {
     let trailing = [joined(&plans), vec![0]].concat();
     cases.push(case("one byte after the last block", &reference, &trailing));
     cases.extend(files_by_hand());
+    cases.extend(files_with_names());
     cases
 }
 
 fn drawn_file(rng: &mut Prng) -> (ReferencePlan, Vec<Plan>) {
-    let shape = Shape { max_reads: 9, max_length: 24, max_carried: 3, ..small_shape(rng) };
+    let max_name = rng.pick(&[1, 3, 6, 36]);
+    let shape =
+        Shape { max_reads: 9, max_length: 20, max_carried: 3, max_name, ..small_shape(rng) };
     let reference = generate_reference(rng, shape.bases);
     let count = rng.pick(&[0, 1, 2, 2, 3, 4]);
     let plans = (0..count).map(|_| generate_under(rng, shape, &reference)).collect();

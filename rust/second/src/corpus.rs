@@ -6,8 +6,8 @@ use crate::prng::Prng;
 use crate::proposals::EncodeCall;
 use crate::{block_id, decode, lengths, section, section_span, validate, validate_block, Outcome};
 
-pub const MAGIC: &[u8; 8] = b"ORACASE1";
-pub const CASE_HEADER_BYTES: usize = 80;
+pub const MAGIC: &[u8; 8] = b"ORACASE2";
+pub const CASE_HEADER_BYTES: usize = 104;
 
 /// What a buffer holds before a call: every byte, or every byte of a number.
 pub const FILL: u8 = 0xEE;
@@ -17,6 +17,8 @@ pub const MAX_REFERENCE: usize = 16_385;
 pub const MAX_INPUT: usize = 12_288;
 pub const MAX_LETTERS: usize = 32_768;
 pub const MAX_ENDS: usize = 4_096;
+pub const MAX_NAME_BYTES: usize = 32_768;
+pub const MAX_NAME_ENDS: usize = 4_096;
 pub const MAX_OUT: usize = 16_384;
 pub const MAX_LABEL: usize = 60;
 
@@ -63,6 +65,8 @@ pub struct Case {
     pub input: Vec<u8>,
     pub letters_lent: u32,
     pub ends_lent: u32,
+    pub name_bytes_lent: u32,
+    pub name_ends_lent: u32,
     /// The reference, and for the encoder all it is given.
     pub call: EncodeCall,
 }
@@ -81,6 +85,8 @@ impl Case {
             reference: reference.to_vec(),
             letters: Vec::new(),
             ends: Vec::new(),
+            names: Vec::new(),
+            name_ends: Vec::new(),
             positions: Vec::new(),
             strands: Vec::new(),
             lefts: Vec::new(),
@@ -91,12 +97,27 @@ impl Case {
         };
         let mut label = label.to_string();
         label.truncate(MAX_LABEL);
-        Case { kind, label, input: input.to_vec(), letters_lent: 0, ends_lent: 0, call }
+        Case {
+            kind,
+            label,
+            input: input.to_vec(),
+            letters_lent: 0,
+            ends_lent: 0,
+            name_bytes_lent: 0,
+            name_ends_lent: 0,
+            call,
+        }
     }
 
     pub fn lending(mut self, letters: usize, ends: usize) -> Case {
         self.letters_lent = letters as u32;
         self.ends_lent = ends as u32;
+        self
+    }
+
+    pub fn lending_names(mut self, bytes: usize, ends: usize) -> Case {
+        self.name_bytes_lent = bytes as u32;
+        self.name_ends_lent = ends as u32;
         self
     }
 
@@ -106,15 +127,18 @@ impl Case {
         case
     }
 
-    /// The case's bytes. Zeros that end the list of ends are not stored.
+    /// The case's bytes. Zeros that end a list of ends are not stored.
     fn bytes(&self) -> Vec<u8> {
         let call = &self.call;
-        let stored = call.ends.iter().rposition(|&end| end != 0).map_or(0, |last| last + 1);
+        let ends = without_last_zeros(&call.ends);
+        let name_ends = without_last_zeros(&call.name_ends);
         let mut payload = self.label.as_bytes().to_vec();
         payload.extend(&call.reference);
         payload.extend(&self.input);
         payload.extend(&call.letters);
-        payload.extend(call.ends[..stored].iter().flat_map(|end| end.to_le_bytes()));
+        payload.extend(ends.iter().flat_map(|end| end.to_le_bytes()));
+        payload.extend(&call.names);
+        payload.extend(name_ends.iter().flat_map(|end| end.to_le_bytes()));
         payload.extend(call.positions.iter().flat_map(|position| position.to_le_bytes()));
         payload.extend(&call.strands);
         payload.extend(&call.lefts);
@@ -130,7 +154,7 @@ impl Case {
             self.input.len(),
             call.letters.len(),
             call.ends.len(),
-            stored,
+            ends.len(),
             call.positions.len(),
             call.strands.len(),
             call.lefts.len(),
@@ -138,6 +162,12 @@ impl Case {
             self.letters_lent as usize,
             self.ends_lent as usize,
             call.capacity,
+            call.names.len(),
+            call.name_ends.len(),
+            name_ends.len(),
+            self.name_bytes_lent as usize,
+            self.name_ends_lent as usize,
+            0,
         ] {
             bytes.extend((length as u32).to_le_bytes());
         }
@@ -153,13 +183,9 @@ impl Case {
             CaseKind::Sections => self.expected_sections(index),
             CaseKind::Lengths => self.expected_lengths(index),
             CaseKind::Decode => {
-                let mut letters = vec![FILL; self.letters_lent as usize];
-                let mut ends = vec![u32::from_le_bytes([FILL; 4]); self.ends_lent as usize];
-                let call = &self.call;
-                let outcome =
-                    decode(call.bases, &call.reference, &self.input, &mut letters, &mut ends);
-                let hashes = [fnv1a(&letters), fnv1a_numbers(&ends)];
-                format!("{index} {name} {} {} {}\n", columns(&outcome), hashes[0], hashes[1])
+                let mut lent = self.lent();
+                let outcome = lent.decode(self.call.bases, &self.call.reference, &self.input);
+                format!("{index} {name} {} {}\n", columns(&outcome), lent.hashes())
             }
             CaseKind::ValidateBlock => {
                 let outcome = validate_block(self.call.bases, &self.call.reference, &self.input);
@@ -175,6 +201,12 @@ impl Case {
                 format!("{index} {name} {} {}\n", columns(&outcome), fnv1a(&out))
             }
         }
+    }
+
+    /// The buffers that a decode case lends, as they are before the call.
+    pub fn lent(&self) -> Lent {
+        let names = [self.name_bytes_lent, self.name_ends_lent].map(|count| count as usize);
+        Lent::new(self.letters_lent as usize, self.ends_lent as usize, names[0], names[1])
     }
 
     fn expected_sections(&self, index: usize) -> String {
@@ -203,6 +235,51 @@ impl Case {
             }
         }
     }
+}
+
+/// What a call of decode is lent.
+#[derive(Clone, Debug, PartialEq, Eq)]
+pub struct Lent {
+    pub letters: Vec<u8>,
+    pub ends: Vec<u32>,
+    pub names: Vec<u8>,
+    pub name_ends: Vec<u32>,
+}
+
+impl Lent {
+    /// Buffers of so many elements, as they are before a call.
+    pub fn new(letters: usize, ends: usize, name_bytes: usize, name_ends: usize) -> Lent {
+        let number = u32::from_le_bytes([FILL; 4]);
+        Lent {
+            letters: vec![FILL; letters],
+            ends: vec![number; ends],
+            names: vec![FILL; name_bytes],
+            name_ends: vec![number; name_ends],
+        }
+    }
+
+    pub fn decode(&mut self, bases: u64, reference: &[u8], input: &[u8]) -> Outcome {
+        decode(
+            bases,
+            reference,
+            input,
+            &mut self.letters,
+            &mut self.ends,
+            &mut self.names,
+            &mut self.name_ends,
+        )
+    }
+
+    fn hashes(&self) -> String {
+        let letters = [fnv1a(&self.letters), fnv1a_numbers(&self.ends)];
+        let names = [fnv1a(&self.names), fnv1a_numbers(&self.name_ends)];
+        format!("{} {} {} {}", letters[0], letters[1], names[0], names[1])
+    }
+}
+
+fn without_last_zeros(ends: &[u32]) -> &[u32] {
+    let stored = ends.iter().rposition(|&end| end != 0).map_or(0, |last| last + 1);
+    &ends[..stored]
 }
 
 /// number block read blocks length reads letters entries differences.
@@ -301,13 +378,16 @@ impl<'a> Walk<'a> {
         let kind = CaseKind::from_byte(head[0])?;
         let (bases, b_id, c_time) = (self.u64()?, self.u64()?, self.u64()?);
         let lengths: Vec<usize> =
-            (0..12).map(|_| self.u32().map(|length| length as usize)).collect::<Option<_>>()?;
+            (0..18).map(|_| self.u32().map(|length| length as usize)).collect::<Option<_>>()?;
         let label = String::from_utf8(self.take(head[1] as usize)?.to_vec()).ok()?;
         let reference = self.take(lengths[0])?.to_vec();
         let input = self.take(lengths[1])?.to_vec();
         let letters = self.take(lengths[2])?.to_vec();
         let mut ends = self.numbers(lengths[4])?;
         ends.resize(lengths[3], 0);
+        let names = self.take(lengths[12])?.to_vec();
+        let mut name_ends = self.numbers(lengths[14])?;
+        name_ends.resize(lengths[13], 0);
         let positions = self.numbers(lengths[5])?;
         let strands = self.take(lengths[6])?.to_vec();
         let lefts = self.take(lengths[7])?.to_vec();
@@ -315,11 +395,14 @@ impl<'a> Walk<'a> {
         if before - self.rest.len() != case_length {
             return None;
         }
-        let mut case =
-            Case::reading(kind, &label, bases, &reference, &input).lending(lengths[9], lengths[10]);
+        let mut case = Case::reading(kind, &label, bases, &reference, &input)
+            .lending(lengths[9], lengths[10])
+            .lending_names(lengths[15], lengths[16]);
         case.call = EncodeCall {
             letters,
             ends,
+            names,
+            name_ends,
             positions,
             strands,
             lefts,

@@ -1,9 +1,11 @@
-//! 01, "The writer's fixed rule". "Writer: 1, 30 to 34." The block is built
-//! aside and copied out last, so a refusal leaves the buffer as it was.
+//! 01, "The writer's fixed rule". "Writer: 1, 30 to 34." 02, Ticket 1, adds 41
+//! "after 33" and the names. The block is built aside and copied out last, so a
+//! refusal leaves the buffer as it was.
 
-use crate::header::{DNA, HEADER_BYTES, MAGIC, MAX_READS, N, SAME_LENGTH, SECTIONS, SIZE};
+use crate::header::*;
 use crate::lengths::{write_words, MAX_LENGTH};
 use crate::letters::{code_of, pack, N_CODE};
+use crate::name_writer::{check_names, write_names};
 use crate::reference::{Reference, Strand};
 use crate::refusal::*;
 
@@ -12,7 +14,6 @@ const MAX_N: usize = 31;
 const MAX_STEP: u64 = 63;
 const VERSION: u16 = 20505;
 const Q_TYPE: u8 = 40;
-const NAMES_NOT_STORED: u32 = 0x4;
 
 /// Writes a block. The answer is the block's length.
 #[allow(clippy::too_many_arguments)]
@@ -21,6 +22,8 @@ pub fn encode(
     reference: &[u8],
     letters: &[u8],
     ends: &[u32],
+    names: &[u8],
+    name_ends: &[u32],
     positions: &[u32],
     strands: &[u8],
     lefts: &[u8],
@@ -34,6 +37,7 @@ pub fn encode(
         check_counts(ends, [positions.len(), strands.len(), lefts.len(), rights.len()])?;
         check_ends(ends, letters.len())?;
         let codes = check_letters(letters)?;
+        let names = write_names(&check_names(names, name_ends, ends.len())?);
         let reads = cut(&codes, ends);
         let candidate = |read: usize| Candidate {
             position: positions[read] as u64,
@@ -41,7 +45,7 @@ pub fn encode(
             left: lefts[read] as u64,
             right: rights[read] as u64,
         };
-        let block = write_block(&reference, &reads, candidate, b_id, c_time);
+        let block = write_block(&reference, &reads, candidate, names, b_id, c_time);
         // 34: "block longer than the buffer".
         if block.len() > out.len() {
             return Err(Refusal::of_block(BLOCK_CAPACITY_TOO_SMALL));
@@ -303,10 +307,12 @@ fn write_sizes(lengths: &[u32]) -> Vec<u8> {
 
 /// "Header 121 bytes, version 20505, q_type 40, flag 0x4; b_id and c_time are
 /// given; what reading checks gets its right number; the rest is 0 or empty."
+/// 02, Ticket 1: "The writer sets 0x8 for 0x4".
 fn write_block(
     reference: &Reference,
     reads: &[&[u8]],
     candidate: impl Fn(usize) -> Candidate,
+    names: Vec<u8>,
     b_id: u64,
     c_time: u64,
 ) -> Vec<u8> {
@@ -316,12 +322,13 @@ fn write_block(
     // "0x1 set exactly if there is a read and all are equal."
     let all_equal = !lengths.is_empty() && lengths.iter().all(|&length| length == lengths[0]);
     let (flags, l_read, sizes) = if all_equal {
-        (NAMES_NOT_STORED | SAME_LENGTH, lengths[0], Vec::new())
+        (NAMES_TOKENIZED | SAME_LENGTH, lengths[0], Vec::new())
     } else {
-        (NAMES_NOT_STORED, 0, write_sizes(&lengths))
+        (NAMES_TOKENIZED, 0, write_sizes(&lengths))
     };
     let mut sections: [Vec<u8>; SECTIONS] = Default::default();
     sections[DNA as usize] = dna.bytes;
+    sections[NAMES as usize] = names;
     sections[SIZE as usize] = sizes;
     sections[N as usize] = dna.n_section;
 

@@ -1,6 +1,7 @@
 //! 01, "Numbers of refusal": files. "A file is judged block by block with 1
 //! to 21 and stops at the first refusal, adding the block's index; the empty
-//! file is accepted unless the reference earns 1."
+//! file is accepted unless the reference earns 1." 02, Ticket 1: "Judging
+//! covers names too", with 40.
 
 use crate::blocks::read_block;
 use crate::reference::Reference;

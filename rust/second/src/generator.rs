@@ -1,8 +1,10 @@
-//! Valid blocks built forward from random record fields, with the letters,
-//! ends and counts they must give. Nothing here uses the decoder or the
-//! encoder: letters are handled as ASCII and bits are laid down one by one.
-//! A `Plan` keeps every field apart, so that mutators can spoil one.
+//! Valid blocks built forward from random record fields and names, with the
+//! letters, ends, names and counts they must give. Nothing here uses the
+//! decoder or the encoder: letters are handled as ASCII and bits are laid down
+//! one by one. A `Plan` keeps every field apart, so that mutators can spoil
+//! one.
 
+use crate::name_plans::{draw_rows, joined, NamesPlan};
 use crate::prng::Prng;
 
 #[derive(Clone, Copy, Debug, PartialEq, Eq)]
@@ -24,6 +26,8 @@ pub struct Shape {
     pub max_reads: u64,
     pub max_length: u64,
     pub max_carried: u64,
+    /// The bytes of a name, 1 to 255.
+    pub max_name: u64,
 }
 
 /// A reference as letters, and packed. Bits past the last base are random.
@@ -71,6 +75,9 @@ pub struct SizeGroup {
 pub struct Expected {
     pub letters: Vec<u8>,
     pub ends: Vec<u32>,
+    /// None where they stay unread.
+    pub names: Vec<u8>,
+    pub name_ends: Vec<u32>,
     pub entries: u64,
     pub differences: u64,
 }
@@ -99,7 +106,9 @@ pub struct Plan {
     pub size_extra: Vec<u8>,
     pub size_cut: usize,
     pub n_section: Vec<u8>,
-    /// names, qualN, qual, m1, m2, m3.
+    /// With flag 0x8 the names section; without it carried bytes stand there.
+    pub names: Option<NamesPlan>,
+    /// names where they stay unread, qualN, qual, m1, m2, m3.
     pub carried: [Vec<u8>; 6],
     /// A length field that tells so much more than its section's length.
     pub told_extra: Option<(usize, u32)>,
@@ -140,9 +149,19 @@ pub fn generate_with_lengths(
 
     let all_equal = lengths.windows(2).all(|pair| pair[0] == pair[1]);
     let same_length = all_equal && !rng.once_in(3);
-    let mut flags = rng.next_u64() as u32 & !(0x40 | 0x80 | 0x1);
+    let mut flags = rng.next_u64() as u32 & !(0x40 | 0x80 | 0x1 | 0x8);
     if rng.coin() {
         flags &= 0x3FFF;
+    }
+    let mut carried = [0; 6].map(|_: u8| some_bytes(rng, shape.max_carried));
+    let rows = draw_rows(rng, lengths.len(), shape.max_name);
+    let mut names = Some(NamesPlan::drawn(rng, &rows));
+    if !rng.once_in(6) {
+        flags |= 0x8;
+        (expected.names, expected.name_ends) = joined(&rows);
+    } else if let (Some(unread), true) = (names.take(), rng.coin()) {
+        // They could be read, but for the flag.
+        carried[0] = unread.section();
     }
     let mut l_read = rng.next_u64() as i32;
     let mut size_groups = Vec::new();
@@ -179,7 +198,8 @@ pub fn generate_with_lengths(
         size_extra: Vec::new(),
         size_cut: 0,
         n_section,
-        carried: [0; 6].map(|_: u8| some_bytes(rng, shape.max_carried)),
+        names,
+        carried,
         told_extra: None,
         block_cut: None,
         expected,
@@ -568,7 +588,8 @@ impl Plan {
         if let Some(cut) = self.dna_cut {
             dna.truncate(cut);
         }
-        let [names, qual_n, qual, m1, m2, m3] = self.carried.clone();
+        let [unread, qual_n, qual, m1, m2, m3] = self.carried.clone();
+        let names = self.names.as_ref().map_or(unread, |names| names.section());
         [dna, names, qual_n, qual, self.size_section(), self.n_section.clone(), m1, m2, m3]
     }
 

@@ -11,10 +11,12 @@ pub const MAGIC: [u8; 2] = [0x49, 0x7C];
 pub const SECTIONS: usize = 9;
 
 pub const DNA: u64 = 0;
+pub const NAMES: u64 = 1;
 pub const SIZE: u64 = 4;
 pub const N: u64 = 5;
 
 pub const SAME_LENGTH: u32 = 0x1;
+pub const NAMES_TOKENIZED: u32 = 0x8;
 const DNA_FALLBACK: u32 = 0x40;
 const ENCRYPTED: u32 = 0x80;
 
@@ -120,6 +122,11 @@ impl Header {
 
     pub fn same_length(&self) -> bool {
         self.flags & SAME_LENGTH != 0
+    }
+
+    /// 02, Ticket 1: "without 0x8 names stay unread".
+    pub fn names_stored(&self) -> bool {
+        self.flags & NAMES_TOKENIZED != 0
     }
 }
 

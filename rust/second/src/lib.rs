@@ -1,7 +1,8 @@
-//! A second program for opened ORA blocks, written from 000 (ORA 2.5.5) and
-//! 01 (the scope paper) alone. It is slow and plain and keeps 01's order, so
-//! that it tests the document. The modules from `refusal` to `listing` are the
-//! codec; those from `prng` on make blocks, faults and the corpus.
+//! A second program for opened ORA blocks, written from 000 (ORA 2.5.5), 01
+//! (the scope paper) and 02 (its change requests) alone. It is slow and plain
+//! and keeps 01's order, so that it tests the documents. The modules from
+//! `refusal` to `listing` are the codec; those from `prng` on make blocks,
+//! faults and the corpus.
 
 pub mod refusal;
 
@@ -15,9 +16,13 @@ pub mod letters;
 
 pub mod records;
 
+pub mod names;
+
 pub mod blocks;
 
 pub mod files;
+
+pub mod name_writer;
 
 pub mod encoder;
 
@@ -25,7 +30,11 @@ pub mod listing;
 
 pub mod prng;
 
+pub mod name_plans;
+
 pub mod generator;
+
+pub mod name_faults;
 
 pub mod mutators;
 
@@ -42,6 +51,8 @@ pub mod cases_blocks;
 pub mod cases_reading;
 
 pub mod cases_encoding;
+
+pub mod cases_names;
 
 pub mod corpus_cases;
 

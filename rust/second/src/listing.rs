@@ -2,7 +2,8 @@
 //! "G in 8 bytes, then its bytes; 32 KiB in all at most; one under 8 bytes
 //! gets 1"; blocks are "each up to 32 KiB", and it "lends 32,768 letters and
 //! 4,096 ends". "A block line starts with b_id; a refusal prints `refused`,
-//! number, block index and read index as its last line."
+//! number, block index and read index as its last line." 02, Ticket 1: it
+//! "lends 32,768 name bytes and 4,096 name ends and prints no names".
 
 use crate::blocks::decode;
 use crate::header::block_id;
@@ -15,6 +16,8 @@ pub const MAX_REFERENCE_FILE: usize = 32_768;
 pub const WINDOW: usize = 32_768;
 pub const LETTERS_LENT: usize = 32_768;
 pub const ENDS_LENT: usize = 4_096;
+pub const NAME_BYTES_LENT: usize = 32_768;
+pub const NAME_ENDS_LENT: usize = 4_096;
 
 pub fn listing(reference_file: &[u8], file: &[u8]) -> String {
     let mut text = String::new();
@@ -39,7 +42,10 @@ fn list(reference_file: &[u8], file: &[u8], text: &mut String) -> Result<(), Ref
         let window = &rest[..rest.len().min(WINDOW)];
         let mut letters = vec![0; LETTERS_LENT];
         let mut ends = vec![0; ENDS_LENT];
-        let outcome = decode(bases, bytes, window, &mut letters, &mut ends);
+        let mut names = vec![0; NAME_BYTES_LENT];
+        let mut name_ends = vec![0; NAME_ENDS_LENT];
+        let outcome =
+            decode(bases, bytes, window, &mut letters, &mut ends, &mut names, &mut name_ends);
         if outcome.number != 0 {
             return Err(Refusal::at_read(outcome.number, outcome.read).in_block(blocks));
         }

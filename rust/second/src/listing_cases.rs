@@ -54,6 +54,19 @@ fn raw_block(length: i32, reads: i32) -> Vec<u8> {
     Hand::same(length, reads, &dna).bytes()
 }
 
+/// The same block with names, one number of eight digits a read: 10000000 and
+/// so on, in steps of 8 bits.
+fn numbered(mut block: Vec<u8>, reads: usize) -> Vec<u8> {
+    let set = [&10_000_000_u64.to_le_bytes()[..], &vec![1; reads - 1]].concat();
+    let size = (set.len() as u64).to_le_bytes();
+    let names = [&[1, 0, 0, 0, 4][..], &size, &set].concat();
+    let dna = u32::from_le_bytes(block[6..10].try_into().unwrap()) as usize;
+    block[10..14].copy_from_slice(&(names.len() as u32).to_le_bytes());
+    block[42] |= 0x8;
+    block.splice(121 + dna..121 + dna, names);
+    block
+}
+
 /// The same block with so many bytes in all: the last section, m3, has the
 /// rest.
 fn filled_up(mut block: Vec<u8>, length: usize) -> Vec<u8> {
@@ -78,7 +91,13 @@ fn lengths_with_n() -> Vec<u8> {
 
 /// Blocks of drawn records, so many reads of up to 60 letters in each.
 fn drawn_blocks(rng: &mut Prng, reference: &ReferencePlan, reads: &[usize]) -> Vec<Vec<u8>> {
-    let shape = Shape { bases: reference.bases, max_reads: 0, max_length: 60, max_carried: 40 };
+    let shape = Shape {
+        bases: reference.bases,
+        max_reads: 0,
+        max_length: 60,
+        max_carried: 40,
+        max_name: 60,
+    };
     let mut blocks = Vec::new();
     for (index, &count) in reads.iter().enumerate() {
         let lengths = (0..count).map(|_| rng.range(20, shape.max_length)).collect();
@@ -145,7 +164,7 @@ fn limit_cases() -> Vec<ListingCase> {
             sums.clone(),
             [example(), filled_up(example(), WINDOW + 1)].concat(),
         ),
-        case("buffers_full", sums.clone(), raw_block(letters / reads, reads)),
+        case("buffers_full", sums.clone(), numbered(raw_block(letters / reads, reads), ENDS_LENT)),
         case("too_many_letters", sums.clone(), raw_block(letters + 1, 1)),
         case("too_many_reads", sums, raw_block(1, reads + 1)),
     ]

@@ -1,11 +1,16 @@
-//! Faults put into a plan's fields, one for each number 1 to 21, and plain
+//! Faults put into a plan's fields, for each number 1 to 21 and 40, and plain
 //! damage to bytes. Each fault knows its number, its read index and its place
 //! in 01's order, so that of two faults the one to be told is known without
 //! asking the decoder.
 
 use crate::generator::{Plan, RecordKind, RecordPlan};
+use crate::name_faults::spoil_names_section;
 use crate::prng::Prng;
 use crate::refusal::*;
+
+/// The numbers that `spoil` knows.
+pub const BLOCK_NUMBERS: [u32; 22] =
+    [1, 2, 3, 4, 5, 6, 7, 8, 9, 10, 11, 12, 13, 14, 15, 16, 17, 18, 19, 20, 21, 40];
 
 /// Where a fault stands in 01's order: phase, group, slot (0 for the group
 /// bytes, then the records), stage within the slot, field of the N list.
@@ -38,6 +43,7 @@ impl Fault {
         Fault { number, read: read as u64, key }
     }
 
+    /// 21, then 40.
     fn at_end(number: u32) -> Fault {
         Fault { number, read: 0, key: [2, number as u64, 0, 0, 0] }
     }
@@ -88,6 +94,9 @@ pub fn spoil(plan: &mut Plan, number: u32, rng: &mut Prng) -> Option<Fault> {
         DNA_TRUNCATED => cut_dna(plan, rng),
         FLAG_BIT_STRAY => spoil_group_bits(plan, rng),
         DNA_TRAILING => add_dna(plan, rng),
+        NAMES_SECTION_INVALID => {
+            spoil_names_section(plan, rng).map(|()| Fault::at_end(NAMES_SECTION_INVALID))
+        }
         _ => spoil_some_record(plan, number, rng),
     }
 }

@@ -1,8 +1,11 @@
-//! Calls of the encoder: random and adversarial candidates, and the faults 1
-//! and 30 to 34. A read is first cut from the reference, then spoiled with
-//! differences and N; its candidate may then be wrong in any way.
+//! Calls of the encoder: random and adversarial candidates, names in several
+//! styles, and the faults 1, 30 to 34 and 41. A read is first cut from the
+//! reference, then spoiled with differences and N; its candidate may then be
+//! wrong in any way.
 
 use crate::generator::ReferencePlan;
+use crate::name_faults::spoil_given_names;
+use crate::name_plans::{draw_rows, joined};
 use crate::prng::Prng;
 use crate::refusal::*;
 
@@ -13,6 +16,8 @@ pub struct EncodeCall {
     pub reference: Vec<u8>,
     pub letters: Vec<u8>,
     pub ends: Vec<u32>,
+    pub names: Vec<u8>,
+    pub name_ends: Vec<u32>,
     pub positions: Vec<u32>,
     pub strands: Vec<u8>,
     pub lefts: Vec<u8>,
@@ -32,7 +37,16 @@ pub struct Proposal {
     pub right: u8,
 }
 
+/// The numbers that `spoil_call` knows, in the order in which they are given.
+pub const CALL_NUMBERS: [u32; 7] = [1, 30, 31, 32, 33, 41, 34];
+
+/// Of several numbers, the one that is told.
+pub fn told_first(numbers: &[u32]) -> u32 {
+    *CALL_NUMBERS.iter().find(|number| numbers.contains(number)).unwrap()
+}
+
 impl EncodeCall {
+    /// The names are the reads' indices, 0, 1, 2 and so on.
     pub fn new(
         reference: &ReferencePlan,
         proposals: &[Proposal],
@@ -44,6 +58,8 @@ impl EncodeCall {
             reference: reference.bytes.clone(),
             letters: Vec::new(),
             ends: Vec::new(),
+            names: Vec::new(),
+            name_ends: Vec::new(),
             positions: Vec::new(),
             strands: Vec::new(),
             lefts: Vec::new(),
@@ -60,13 +76,27 @@ impl EncodeCall {
             call.lefts.push(proposal.left);
             call.rights.push(proposal.right);
         }
-        call.capacity = call.enough();
-        call
+        let names: Vec<String> = (0..proposals.len()).map(|read| read.to_string()).collect();
+        call.named(&names)
     }
 
-    /// More bytes than any block of these reads takes.
+    /// The same call with other names.
+    pub fn named<Name: AsRef<[u8]>>(mut self, names: &[Name]) -> EncodeCall {
+        self.names.clear();
+        self.name_ends.clear();
+        for name in names {
+            self.names.extend(name.as_ref());
+            self.name_ends.push(self.names.len() as u32);
+        }
+        self.capacity = self.enough();
+        self
+    }
+
+    /// More bytes than any block of these reads takes. A token has a byte or
+    /// more, and takes four bytes or one more than its own; a column takes 17.
     pub fn enough(&self) -> usize {
-        200 + self.letters.len() + 300 * self.ends.len()
+        let names = 4 + 17 * 255 + 4 * self.names.len();
+        200 + self.letters.len() + 300 * self.ends.len() + names
     }
 
     pub fn run(&self, out: &mut [u8]) -> Outcome {
@@ -75,6 +105,8 @@ impl EncodeCall {
             &self.reference,
             &self.letters,
             &self.ends,
+            &self.names,
+            &self.name_ends,
             &self.positions,
             &self.strands,
             &self.lefts,
@@ -100,7 +132,11 @@ pub fn random_call(
             random_proposal(rng, reference, length)
         })
         .collect();
-    EncodeCall::new(reference, &proposals, rng.next_u64(), rng.next_u64())
+    let mut call = EncodeCall::new(reference, &proposals, rng.next_u64(), rng.next_u64());
+    let max_name = rng.pick(&[1, 8, 40, 40, 60, 255]);
+    (call.names, call.name_ends) = joined(&draw_rows(rng, proposals.len(), max_name));
+    call.capacity = call.enough();
+    call
 }
 
 fn random_length(rng: &mut Prng, max_length: u64) -> u64 {
@@ -233,6 +269,7 @@ pub fn spoil_call(call: &mut EncodeCall, number: u32, block_length: usize, rng: 
         BLOCK_CAPACITY_TOO_SMALL => {
             call.capacity = rng.pick(&[0, 1, 120, block_length - 1, block_length - 1]);
         }
+        NAMES_INVALID => return spoil_given_names(call, rng).is_some(),
         _ => return false,
     }
     true

@@ -1,4 +1,5 @@
-//! 01, "Numbers of refusal": the numbers by name, and what a call answers.
+//! 01, "Numbers of refusal", and 40 and 41 of 02, Ticket 1: the numbers by
+//! name, and what a call answers.
 //! A refusal is a number, a block index and a read index; "every count in a
 //! refusal is 0".
 
@@ -29,6 +30,8 @@ pub const CANDIDATE_COUNT_WRONG: u32 = 31;
 pub const READ_ENDS_INVALID: u32 = 32;
 pub const LETTER_INVALID: u32 = 33;
 pub const BLOCK_CAPACITY_TOO_SMALL: u32 = 34;
+pub const NAMES_SECTION_INVALID: u32 = 40;
+pub const NAMES_INVALID: u32 = 41;
 
 /// A refusal: its number, the index of the block and the index of the read.
 #[derive(Clone, Copy, Debug, PartialEq, Eq)]

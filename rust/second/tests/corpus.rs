@@ -1,5 +1,6 @@
 //! Property: the corpus in the tree is the one that is made, walks front to
-//! back, keeps its limits, and meets every number and every record kind.
+//! back, keeps its limits, and meets every number, every record kind and every
+//! type of a column of names.
 //! Catches: a corpus gone stale, or one that no longer tests a refusal.
 
 use second::blocks::read_block;
@@ -74,6 +75,10 @@ fn limits_hold() {
             assert!(case.letters_lent as usize <= most_letters, "{}", case.label);
             assert!(call.letters.len() <= most_letters, "{}", case.label);
             assert!(case.ends_lent as usize <= MAX_ENDS, "{}", case.label);
+            assert!(case.name_bytes_lent as usize <= MAX_NAME_BYTES, "{}", case.label);
+            assert!(call.names.len() <= MAX_NAME_BYTES, "{}", case.label);
+            assert!(case.name_ends_lent as usize <= MAX_NAME_ENDS, "{}", case.label);
+            assert!(call.name_ends.len() <= MAX_NAME_ENDS, "{}", case.label);
             assert!(call.ends.len() <= most_ends && call.positions.len() <= MAX_ENDS);
             assert!(call.strands.len() <= MAX_ENDS && call.lefts.len() <= MAX_ENDS);
             assert!(call.rights.len() <= MAX_ENDS && call.capacity <= most_out, "{}", case.label);
@@ -102,12 +107,13 @@ fn numbers(name: &str) -> (BTreeSet<u32>, bool) {
 #[test]
 fn every_number_is_met() {
     let all = |high| (0..=high).collect::<BTreeSet<u32>>();
-    assert_eq!(numbers("decode").0, all(22));
-    assert_eq!(numbers("validate_block").0, all(21));
-    assert_eq!(numbers("validate"), (all(21), true));
+    let and_40 = |high| (0..=high).chain([40]).collect::<BTreeSet<u32>>();
+    assert_eq!(numbers("decode").0, and_40(22));
+    assert_eq!(numbers("validate_block").0, and_40(21));
+    assert_eq!(numbers("validate"), (and_40(21), true));
     let lengths = numbers("lengths").0;
     assert_eq!(lengths, all(10).into_iter().filter(|&number| number != 1).collect());
-    assert_eq!(numbers("encode").0, BTreeSet::from([0, 1, 31, 32, 33, 34]));
+    assert_eq!(numbers("encode").0, BTreeSet::from([0, 1, 31, 32, 33, 34, 41]));
     assert_eq!(numbers("encode_large").0, BTreeSet::from([0, 30, 31]));
     assert_eq!(numbers("decode_large").0, BTreeSet::from([0, 22]));
 }
@@ -148,6 +154,30 @@ fn every_record_kind_is_met() {
             let kinds = kinds(&blocks);
             assert!(kinds.iter().all(|&count| count >= 20), "{} {kinds:?}", file.name);
         }
+    }
+}
+
+/// Types 0, 3, 4 and 5 in the names sections of accepted blocks; and accepted
+/// blocks whose names stay unread.
+#[test]
+fn every_column_type_is_met() {
+    for name in ["decode", "validate_block"] {
+        let file = corpus().into_iter().find(|file| file.name == name).unwrap();
+        let (mut types, mut unread) = ([0; 6], 0);
+        for case in &file.cases {
+            let call = &case.call;
+            if second::validate_block(call.bases, &call.reference, &case.input).number != 0 {
+                continue;
+            }
+            let names = second::section(&case.input, 1);
+            if case.input[42] & 8 == 0 {
+                unread += !names.is_empty() as u32;
+            } else if let Some((count, rest)) = names.split_first() {
+                rest[3..3 + *count as usize].iter().for_each(|&kind| types[kind as usize] += 1);
+            }
+        }
+        assert!([0, 3, 4, 5].iter().all(|&kind| types[kind] >= 10), "{name} {types:?}");
+        assert!(unread >= 10, "{name} {unread}");
     }
 }
 

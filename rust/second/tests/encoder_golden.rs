@@ -3,11 +3,13 @@
 
 mod common;
 use common::*;
+use second::proposals::EncodeCall;
 use second::*;
 
 type Read<'a> = (&'a str, u32, u8, u8, u8);
 
-/// The block for reads under ACGTACGTTGCA, b_id 7, c_time 9.
+/// The block for reads under ACGTACGTTGCA, b_id 7, c_time 9. Their names are
+/// a0, a1 and so on.
 fn write(reads: &[Read]) -> Vec<u8> {
     let letters: Vec<u8> = reads.iter().flat_map(|read| read.0.bytes()).collect();
     let mut end = 0;
@@ -22,10 +24,21 @@ fn write(reads: &[Read]) -> Vec<u8> {
     let strands: Vec<u8> = reads.iter().map(|read| read.2).collect();
     let lefts: Vec<u8> = reads.iter().map(|read| read.3).collect();
     let rights: Vec<u8> = reads.iter().map(|read| read.4).collect();
+    let names: Vec<String> = (0..reads.len()).map(|read| format!("a{read}")).collect();
+    let (b_id, c_time) = (7, 9);
+    let call = EncodeCall {
+        letters,
+        ends,
+        positions,
+        strands,
+        lefts,
+        rights,
+        b_id,
+        c_time,
+        ..sums_call().named(&names)
+    };
     let mut out = vec![0; 4000];
-    let outcome = encode(
-        BASES, &REFERENCE, &letters, &ends, &positions, &strands, &lefts, &rights, 7, 9, &mut out,
-    );
+    let outcome = call.run(&mut out);
     assert_eq!(outcome.number, 0);
     out.truncate(outcome.length as usize);
     out
@@ -43,11 +56,12 @@ fn whole_block() {
         0x49, 0x7C, // magic
         0x79, 0, 0, 0, // l_header 121
         8, 0, 0, 0, // dna
-        0, 0, 0, 0, 0, 0, 0, 0, 0, 0, 0, 0, // names, qualN, qual
+        32, 0, 0, 0, // names
+        0, 0, 0, 0, 0, 0, 0, 0, // qualN, qual
         0, 0, 0, 0, // size
         1, 0, 0, 0, // N
         0, 0, 0, 0, 0, 0, 0, 0, 0, 0, 0, 0, // m1, m2, m3
-        5, 0, 0, 0, // flags 0x4 and 0x1
+        9, 0, 0, 0, // flags 0x8 and 0x1
         4, 0, 0, 0, // l_read
         1, 0, 0, 0, // n_reads
         0x19, 0x50, // version 20505
@@ -60,16 +74,22 @@ fn whole_block() {
     ];
     expected.extend([0; 24]); // checksums
     expected.extend([0x00, 0x80, 0x00, 0x80, 0x0C, 0x00, 0x00, 0x0B]); // DNA
+    expected.extend([2, 0, 0, 0]); // token count
+    expected.extend([0, 4]); // strings, steps of 8 bits
+    expected.extend([2, 0, 0, 0, 0, 0, 0, 0]); // size of a and its zero byte
+    expected.extend([8, 0, 0, 0, 0, 0, 0, 0]); // size of the start
+    expected.extend([b'a', 0]);
+    expected.extend([0; 8]); // start 0, no steps
     expected.extend([0x00]); // N
     assert_eq!(write(&[("ACTT", 0, 1, 0, 0)]), expected);
 }
 
-/// No reads: the header alone, flag 0x1 not set.
+/// No reads: the header alone, flag 0x8 set, flag 0x1 not.
 #[test]
 fn no_reads() {
     let block = write(&[]);
     assert_eq!(block.len(), 121);
-    assert_eq!(block[42..46], [4, 0, 0, 0]);
+    assert_eq!(block[42..46], [8, 0, 0, 0]);
     assert!(block[6..42].iter().all(|&byte| byte == 0));
 }
 
@@ -157,5 +177,5 @@ fn sizes() {
     let block = write(&reads);
     assert_eq!(section(&block, 4), [0x40, 0xA0, 2, 3]);
     // l_read is 0 where 0x1 is not set.
-    assert_eq!(block[42..50], [4, 0, 0, 0, 0, 0, 0, 0]);
+    assert_eq!(block[42..50], [8, 0, 0, 0, 0, 0, 0, 0]);
 }

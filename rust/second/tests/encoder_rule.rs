@@ -1,7 +1,8 @@
 //! Property: the encoder's block is, byte for byte, the one that 01's fixed
 //! rule names; the rule is worked out here a second time, on ASCII letters.
 //! Catches: another choice of kind, fillers at other steps, pos_t or size
-//! bits set otherwise, header fields that should be 0.
+//! bits set otherwise, a column of names in another coding, header fields that
+//! should be 0.
 
 use second::generator::{generate_reference, ReferencePlan};
 use second::prng::Prng;
@@ -147,6 +148,69 @@ fn sizes(lengths: &[usize]) -> Vec<u8> {
     bytes
 }
 
+/// The names section of the rule, told apart by text: a number is written as
+/// it is printed.
+fn names_section(call: &EncodeCall) -> Vec<u8> {
+    let text = String::from_utf8(call.names.clone()).unwrap();
+    let mut rows: Vec<Vec<String>> = Vec::new();
+    for (read, &end) in call.name_ends.iter().enumerate() {
+        let start = if read == 0 { 0 } else { call.name_ends[read - 1] };
+        let mut row: Vec<String> = Vec::new();
+        for c in text[start as usize..end as usize].chars() {
+            let digit = |token: &String| token.ends_with(|last: char| last.is_ascii_digit());
+            match row.last_mut().filter(|token| digit(token) == c.is_ascii_digit()) {
+                Some(token) => token.push(c),
+                None => row.push(c.to_string()),
+            }
+        }
+        rows.push(row);
+    }
+    let Some(tokens) = rows.first().map(|row| row.len()) else { return Vec::new() };
+    let (mut types, mut sizes, mut sets) = (Vec::new(), Vec::new(), Vec::new());
+    for token in 0..tokens {
+        let column: Vec<&str> = rows.iter().map(|row| row[token].as_str()).collect();
+        let (kind, set) = match numbers(&column) {
+            Some(numbers) => rising_set(&numbers),
+            None => (0, column.join("\0").into_bytes().into_iter().chain([0]).collect()),
+        };
+        types.push(kind);
+        sizes.extend((set.len() as u64).to_le_bytes());
+        sets.extend(set);
+    }
+    [(tokens as u32).to_le_bytes().to_vec(), types, sizes, sets].concat()
+}
+
+/// Numbers of a column that is not written as strings.
+fn numbers(column: &[&str]) -> Option<Vec<i128>> {
+    let mut numbers: Vec<i128> = Vec::new();
+    for token in column {
+        let number: i128 = if token.len() <= 18 { token.parse().ok()? } else { return None };
+        let step = number - numbers.last().unwrap_or(&number);
+        if number.to_string() != *token || !(0..1 << 32).contains(&step) {
+            return None;
+        }
+        numbers.push(number);
+    }
+    Some(numbers)
+}
+
+fn rising_set(numbers: &[i128]) -> (u8, Vec<u8>) {
+    let steps: Vec<i128> = numbers.windows(2).map(|pair| pair[1] - pair[0]).collect();
+    let fits = |bits: u32| steps.iter().all(|&step| step < 1 << bits);
+    let (kind, width) = if fits(8) {
+        (4, 1)
+    } else if fits(16) {
+        (3, 2)
+    } else {
+        (5, 4)
+    };
+    let mut set = numbers[0].to_le_bytes()[..8].to_vec();
+    for step in steps {
+        set.extend(&step.to_le_bytes()[..width]);
+    }
+    (kind, set)
+}
+
 fn expected_block(reference: &ReferencePlan, call: &EncodeCall) -> Vec<u8> {
     let reads = call.ends.len();
     let (mut dna, mut n_section, mut previous) = (Vec::new(), Vec::new(), 0);
@@ -174,15 +238,18 @@ fn expected_block(reference: &ReferencePlan, call: &EncodeCall) -> Vec<u8> {
         values.iter().flat_map(|&value| (value as u32).to_le_bytes()).collect::<Vec<u8>>()
     };
     let mut block = vec![0x49, 0x7C];
-    block.extend(u32s(&[121, dna.len(), 0, 0, 0, sizes.len(), n_section.len(), 0, 0, 0]));
-    block.extend(u32s(&[if equal { 5 } else { 4 }, if equal { lengths[0] } else { 0 }, reads]));
+    let names = names_section(call);
+    let lengths_of = [dna.len(), names.len(), 0, 0, sizes.len(), n_section.len(), 0, 0, 0];
+    block.extend(u32s(&[121]));
+    block.extend(u32s(&lengths_of));
+    block.extend(u32s(&[if equal { 9 } else { 8 }, if equal { lengths[0] } else { 0 }, reads]));
     block.extend(20505u16.to_le_bytes());
     block.extend(call.b_id.to_le_bytes());
     block.extend([40, 0, 0, 0, 0]);
     block.extend(u32s(&[0, call.letters.len(), 0, 0, 0]));
     block.extend(call.c_time.to_le_bytes());
     block.extend([0; 24]);
-    [block, dna, sizes, n_section].concat()
+    [block, dna, names, sizes, n_section].concat()
 }
 
 fn check(rng: &mut Prng, bases: u64, reads: u64, max_length: u64) {

@@ -3,7 +3,7 @@
 //! out, a read index taken from the group or counted from 1.
 
 use second::generator::{generate, Plan, Shape};
-use second::mutators::{first, spoil, spoil_all, spoil_record, Fault};
+use second::mutators::{first, spoil, spoil_all, spoil_record, Fault, BLOCK_NUMBERS};
 use second::prng::Prng;
 use second::*;
 
@@ -21,6 +21,7 @@ fn shape(rng: &mut Prng) -> Shape {
         max_reads: rng.pick(&[1, 2, 3, 9, 20]),
         max_length: rng.pick(&[3, 40, 300]),
         max_carried: 3,
+        max_name: rng.pick(&[1, 4, 20, 60, 255]),
     }
 }
 
@@ -32,41 +33,41 @@ fn check(plan: &Plan, faults: &[Fault], what: &str) {
 #[test]
 fn single_faults() {
     let mut rng = Prng::new(11);
-    let mut met = [0; 22];
+    let mut met = [0; 41];
     for _ in 0..6000 {
         let shape = shape(&mut rng);
         let mut plan = generate(&mut rng, shape);
-        let number = rng.range(1, 21) as u32;
+        let number = rng.pick(&BLOCK_NUMBERS);
         if let Some(fault) = spoil(&mut plan, number, &mut rng) {
             check(&plan, &[fault], "single");
             met[number as usize] += 1;
         }
     }
-    assert!(met[1..].iter().all(|&count| count > 40), "{met:?}");
+    assert!(BLOCK_NUMBERS.iter().all(|&number| met[number as usize] > 40), "{met:?}");
 }
 
 #[test]
 fn double_faults() {
     let mut rng = Prng::new(12);
-    let mut met = vec![0; 22 * 22];
+    let mut met = vec![0; 41 * 41];
     for _ in 0..40_000 {
         let shape = shape(&mut rng);
         let mut plan = generate(&mut rng, shape);
-        let numbers = [rng.range(1, 21) as u32, rng.range(1, 21) as u32];
+        let numbers = [rng.pick(&BLOCK_NUMBERS), rng.pick(&BLOCK_NUMBERS)];
         if numbers[0] == numbers[1] {
             continue;
         }
         let faults = spoil_all(&mut plan, &numbers, &mut rng);
         if faults.len() == 2 {
             check(&plan, &faults, "double");
-            met[numbers[0] as usize * 22 + numbers[1] as usize] += 1;
+            met[numbers[0] as usize * 41 + numbers[1] as usize] += 1;
         }
     }
     // 12 and 21 exclude each other; every other pair is met.
-    for low in 1..22 {
-        for high in low + 1..22 {
-            let count = met[low * 22 + high] + met[high * 22 + low];
-            assert!(count > 0 || (low, high) == (12, 21), "{low} {high}");
+    for low in BLOCK_NUMBERS.map(|number| number as usize) {
+        for high in BLOCK_NUMBERS.map(|number| number as usize) {
+            let count = met[low * 41 + high] + met[high * 41 + low];
+            assert!(count > 0 || low >= high || (low, high) == (12, 21), "{low} {high}");
         }
     }
 }
@@ -129,7 +130,7 @@ fn three_faults() {
     for _ in 0..10_000 {
         let shape = shape(&mut rng);
         let mut plan = generate(&mut rng, shape);
-        let mut numbers: Vec<u32> = (0..3).map(|_| rng.range(9, 21) as u32).collect();
+        let mut numbers: Vec<u32> = (0..3).map(|_| rng.pick(&BLOCK_NUMBERS[8..])).collect();
         numbers.sort();
         numbers.dedup();
         let faults = spoil_all(&mut plan, &numbers, &mut rng);

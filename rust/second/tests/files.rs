@@ -3,11 +3,12 @@
 //! a read index counted over the file, the empty file refused.
 
 use second::generator::*;
-use second::mutators::spoil;
+use second::mutators::{spoil, BLOCK_NUMBERS};
 use second::prng::Prng;
 use second::*;
 
-const SHAPE: Shape = Shape { bases: 100, max_reads: 10, max_length: 40, max_carried: 4 };
+const SHAPE: Shape =
+    Shape { bases: 100, max_reads: 10, max_length: 40, max_carried: 4, max_name: 40 };
 
 fn joined(blocks: &[Plan]) -> Vec<u8> {
     blocks.iter().flat_map(|plan| plan.block()).collect()
@@ -53,7 +54,10 @@ fn the_first_faulty_block_is_told() {
         }
         let index = rng.below(plans.len() as u64) as usize;
         // A block cut short would be filled from the next one.
-        let number = rng.pick(&[3, 4, 5, 6, 7, 9, 10, 11, 12, 13, 14, 15, 16, 17, 18, 19, 20, 21]);
+        let number = rng.pick(&BLOCK_NUMBERS);
+        if [1, 2, 8].contains(&number) {
+            continue;
+        }
         let Some(fault) = spoil(&mut plans[index], number, &mut rng) else { continue };
         let outcome = validate(reference.bases, &reference.bytes, &joined(&plans));
         let block = index as u64;

@@ -1,8 +1,10 @@
-//! Property: a block built forward from fields decodes to the letters, ends
-//! and counts computed from those fields. Catches: a wrong turn of reverse
-//! reads, a position restarted at a group or by a raw read, fillers counted
-//! as differences, N laid under entries, and any misread field.
+//! Property: a block built forward from fields decodes to the letters, ends,
+//! names and counts computed from those fields. Catches: a wrong turn of
+//! reverse reads, a position restarted at a group or by a raw read, fillers
+//! counted as differences, N laid under entries, a column of names read in
+//! another width, unread names read, and any misread field.
 
+use second::corpus::Lent;
 use second::generator::*;
 use second::prng::Prng;
 use second::*;
@@ -10,10 +12,11 @@ use second::*;
 fn check(plan: &Plan) {
     let block = plan.block();
     let expected = &plan.expected;
-    let mut letters = vec![0xEE; expected.letters.len() + 3];
-    let mut ends = vec![0xEEEE_EEEE; expected.ends.len() + 3];
+    let (letters, ends) = (expected.letters.len(), expected.ends.len());
+    let (names, name_ends) = (expected.names.len(), expected.name_ends.len());
+    let mut lent = Lent::new(letters + 3, ends + 3, names + 3, name_ends + 3);
     let reference = &plan.reference;
-    let outcome = decode(reference.bases, &reference.bytes, &block, &mut letters, &mut ends);
+    let outcome = lent.decode(reference.bases, &reference.bytes, &block);
     let wanted = Outcome {
         length: block.len() as u64,
         reads: expected.ends.len() as u64,
@@ -23,10 +26,11 @@ fn check(plan: &Plan) {
         ..Outcome::default()
     };
     assert_eq!(outcome, wanted);
-    assert!(letters.starts_with(&expected.letters));
-    assert_eq!(letters[expected.letters.len()..], [0xEE; 3]);
-    assert!(ends.starts_with(&expected.ends));
-    assert_eq!(ends[expected.ends.len()..], [0xEEEE_EEEE; 3]);
+    let ends_of = |ends: &[u32]| [ends, &[0xEEEE_EEEE; 3]].concat();
+    assert!(lent.letters == [&expected.letters[..], &[0xEE; 3]].concat());
+    assert!(lent.ends == ends_of(&expected.ends));
+    assert!(lent.names == [&expected.names[..], &[0xEE; 3]].concat());
+    assert!(lent.name_ends == ends_of(&expected.name_ends));
     assert_eq!(validate_block(reference.bases, &reference.bytes, &block), wanted);
 
     let read_lengths: Vec<u64> =
@@ -47,6 +51,7 @@ fn small_blocks() {
             max_reads: rng.pick(&[1, 2, 8, 9, 24]),
             max_length: rng.pick(&[1, 3, 40, 300]),
             max_carried: round % 10,
+            max_name: rng.pick(&[1, 2, 12, 40, 60, 255]),
         };
         check(&generate(&mut rng, shape));
     }
@@ -61,6 +66,7 @@ fn long_reads_and_large_references() {
             max_reads: 10,
             max_length: 100_000,
             max_carried: 0,
+            max_name: 40,
         };
         check(&generate(&mut rng, shape));
     }
@@ -69,7 +75,7 @@ fn long_reads_and_large_references() {
 #[test]
 fn every_kind_coding_and_strand_is_met() {
     let mut rng = Prng::new(3);
-    let shape = Shape { bases: 700, max_reads: 17, max_length: 600, max_carried: 0 };
+    let shape = Shape { bases: 700, max_reads: 17, max_length: 600, max_carried: 0, max_name: 1 };
     let (mut kinds, mut short_positions, mut long_positions) = ([0; 5], 0, 0);
     let (mut same, mut bytes, mut fillers, mut without_reads) = (0, 0, 0, 0);
     for _ in 0..300 {

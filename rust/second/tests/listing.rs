@@ -1,11 +1,11 @@
 //! Property: the listing program's text for 01's example block of 132 bytes,
 //! and its refusals. Catches: a block line in another form, a refusal that is
 //! not the last line, a short reference file taken as an empty one, a block
-//! read past the window.
+//! read past the window, names printed.
 
 mod common;
 use common::*;
-use second::listing::{listing, ENDS_LENT, LETTERS_LENT, MAX_REFERENCE_FILE, WINDOW};
+use second::listing::*;
 
 fn reference_file() -> Vec<u8> {
     [&BASES.to_le_bytes()[..], &REFERENCE].concat()
@@ -93,4 +93,45 @@ fn more_than_is_lent_gets_22() {
     assert!(printed(&raw(1, ENDS_LENT)).ends_with("end blocks 1\n"));
     assert_eq!(printed(&raw(LETTERS_LENT + 1, 1)), "refused 22 0 0\n");
     assert_eq!(printed(&raw(1, ENDS_LENT + 1)), "refused 22 0 0\n");
+}
+
+/// The example with these names, 121 + 10 bytes before them.
+fn named(names: &[u8]) -> Vec<u8> {
+    let mut block = example();
+    block[10..14].copy_from_slice(&(names.len() as u32).to_le_bytes());
+    block[42] |= 8;
+    block.splice(131..131, names.iter().copied());
+    block
+}
+
+/// 02, Ticket 1: it "prints no names"; 40 is printed as any refusal.
+#[test]
+fn names_are_not_printed() {
+    let name = [&[1, 0, 0, 0, 0, 2, 0, 0, 0, 0, 0, 0, 0][..], b"n\0"].concat();
+    let file = [named(&name), named(&name[..14])].concat();
+    assert_eq!(listing(&reference_file(), &file), format!("{LINES}refused 40 1 0\n"));
+}
+
+/// 02, Ticket 1: it "lends 32,768 name bytes and 4,096 name ends". 128 names
+/// of 255 bytes, and one of 128, or of 129.
+#[test]
+fn more_names_than_are_lent_get_22() {
+    assert_eq!((NAME_BYTES_LENT, NAME_ENDS_LENT), (32_768, 4_096));
+    let block = |last: usize| {
+        let dna = [vec![0; 4], [2, 0].repeat(8)].concat().repeat(16);
+        let dna = [dna, vec![0, 0, 0, 0, 2, 0]].concat();
+        // A number of 18 digits, others, a number of 18 digits.
+        let number = [&999_999_999_999_999_999_u64.to_le_bytes()[..], &[0; 128]].concat();
+        let others =
+            [[vec![b'x'; 219], vec![0]].concat().repeat(128), vec![b'x'; last - 36], vec![0]];
+        let sets = [&number, &others.concat(), &number].map(|set| set.to_vec());
+        let sizes = [0, 1, 2].map(|column| (sets[column].len() as u64).to_le_bytes()).concat();
+        let mut hand = Hand::same(1, 129, &dna, &[0; 17]);
+        hand.flags |= 8;
+        hand.names = [&[3, 0, 0, 0, 4, 0, 4][..], &sizes, &sets.concat()].concat();
+        hand.bytes()
+    };
+    assert!(block(129).len() <= WINDOW);
+    assert!(listing(&reference_file(), &block(128)).ends_with("end blocks 1\n"));
+    assert_eq!(listing(&reference_file(), &block(129)), "refused 22 0 0\n");
 }

@@ -98,7 +98,8 @@ fn the_program_prints_the_corpus() {
 #[test]
 fn the_program_prints_long_files() {
     let rng = &mut Prng::new(20505);
-    let shape = Shape { bases: 2_000, max_reads: 0, max_length: 300, max_carried: 2_000 };
+    let shape =
+        Shape { bases: 2_000, max_reads: 0, max_length: 300, max_carried: 2_000, max_name: 255 };
     for _ in 0..12 {
         let reference = generate_reference(rng, shape.bases);
         let mut blocks = Vec::new();

@@ -3,6 +3,8 @@
 
 mod common;
 use common::*;
+use second::corpus::Lent;
+use second::proposals::EncodeCall;
 use second::*;
 
 /// Row five of 01's sums: one global read, ACTT.
@@ -80,7 +82,7 @@ fn refuses_5_header_length() {
 fn refuses_6_fallback_and_encryption() {
     assert_eq!(told(&with(42, &[0x41])), (6, 0));
     assert_eq!(told(&with(42, &[0x81])), (6, 0));
-    assert_eq!(told(&with(42, &[0x3F, 0xFF, 0xFF, 0xFF])), (0, 0));
+    assert_eq!(told(&with(42, &[0x37, 0xFF, 0xFF, 0xFF])), (0, 0));
 }
 
 #[test]
@@ -414,7 +416,7 @@ fn refuses_21_dna_left_over() {
 #[test]
 fn refuses_22_capacity() {
     let number = |letters: usize, ends: usize| {
-        decode(BASES, &REFERENCE, &good(), &mut vec![0; letters], &mut vec![0; ends]).number
+        Lent::new(letters, ends, 0, 0).decode(BASES, &REFERENCE, &good()).number
     };
     assert_eq!(number(4, 1), 0);
     assert_eq!(number(3, 1), 22);
@@ -422,26 +424,31 @@ fn refuses_22_capacity() {
     assert_eq!(number(0, 0), 22);
     // 21 comes first.
     let trailing = Hand::same(4, 1, &[0x80, 0x80, 0, 0, 4, 0, 0, 0, 0], &[0]).bytes();
-    assert_eq!(decode(BASES, &REFERENCE, &trailing, &mut [], &mut []).number, 21);
+    assert_eq!(Lent::new(0, 0, 0, 0).decode(BASES, &REFERENCE, &trailing).number, 21);
 }
 
-/// Letters, ends, one proposal for each read, and a buffer.
+/// Letters, ends, the name a and one proposal for each read, and a buffer.
 fn write(letters: &[u8], ends: &[u32], capacity: usize) -> Outcome {
     let reads = ends.len();
-    let (positions, bytes) = (vec![0; reads], vec![0; reads]);
-    let mut out = vec![0; capacity];
-    encode(BASES, &REFERENCE, letters, ends, &positions, &bytes, &bytes, &bytes, 0, 0, &mut out)
+    let mut call = sums_call().named(&vec!["a"; reads]);
+    call.letters = letters.to_vec();
+    call.ends = ends.to_vec();
+    call.positions = vec![0; reads];
+    call.strands = vec![0; reads];
+    call.lefts = vec![0; reads];
+    call.rights = vec![0; reads];
+    call.run(&mut vec![0; capacity])
 }
 
 #[test]
 fn encode_refuses_1_reference() {
-    let mut out = [0; 200];
-    let run = |bases, out: &mut [u8]| {
-        encode(bases, &REFERENCE, b"A", &[1], &[], &[], &[], &[], 0, 0, out).number
+    let run = |bases| {
+        let call = EncodeCall { bases, letters: b"A".to_vec(), ends: vec![1], ..sums_call() };
+        call.run(&mut [0; 200]).number
     };
-    assert_eq!(run(13, &mut out), 1);
-    assert_eq!(run(1 << 32, &mut out), 1);
-    assert_eq!(run(12, &mut out), 31);
+    assert_eq!(run(13), 1);
+    assert_eq!(run(1 << 32), 1);
+    assert_eq!(run(12), 31);
 }
 
 #[test]
@@ -452,11 +459,8 @@ fn refuses_30_reads_above_50_000() {
     let outcome = write(&letters[1..], &ends[..50_000], 1 << 20);
     assert_eq!(outcome.number, 0);
     // Before 31 and 32.
-    let mut out = [0; 1];
-    assert_eq!(
-        encode(BASES, &REFERENCE, &[], &[0; 50_001], &[], &[], &[], &[], 0, 0, &mut out).number,
-        30
-    );
+    let call = EncodeCall { ends: vec![0; 50_001], ..sums_call() };
+    assert_eq!(call.run(&mut [0; 1]).number, 30);
 }
 
 #[test]
@@ -465,21 +469,16 @@ fn refuses_31_candidates_not_one_per_read() {
         for count in [0, 1, 3] {
             let counts: Vec<usize> =
                 (0..4).map(|which| if which == spoiled { count } else { 2 }).collect();
-            let mut out = [0; 300];
-            let outcome = encode(
-                BASES,
-                &REFERENCE,
-                b"AC",
-                &[1, 2],
-                &vec![0; counts[0]],
-                &vec![0; counts[1]],
-                &vec![0; counts[2]],
-                &vec![0; counts[3]],
-                0,
-                0,
-                &mut out,
-            );
-            assert_eq!(outcome, Outcome { number: 31, ..Outcome::default() });
+            let call = EncodeCall {
+                letters: b"AC".to_vec(),
+                ends: vec![1, 2],
+                positions: vec![0; counts[0]],
+                strands: vec![0; counts[1]],
+                lefts: vec![0; counts[2]],
+                rights: vec![0; counts[3]],
+                ..sums_call()
+            };
+            assert_eq!(call.run(&mut [0; 300]), Outcome { number: 31, ..Outcome::default() });
         }
     }
 }
@@ -515,9 +514,9 @@ fn refuses_33_letter() {
 
 #[test]
 fn refuses_34_block_capacity() {
-    // 121 + 4 group bytes + flag + 1 byte of letters + N byte.
-    assert_eq!(write(b"ACG", &[3], 128), Outcome { length: 128, ..Outcome::default() });
-    assert_eq!(write(b"ACG", &[3], 127), Outcome { number: 34, ..Outcome::default() });
+    // 121 + 4 group bytes + flag + 1 byte of letters + 15 of names + N byte.
+    assert_eq!(write(b"ACG", &[3], 143), Outcome { length: 143, ..Outcome::default() });
+    assert_eq!(write(b"ACG", &[3], 142), Outcome { number: 34, ..Outcome::default() });
     assert_eq!(write(b"", &[], 121).length, 121);
     assert_eq!(write(b"", &[], 120).number, 34);
     assert_eq!(write(b"", &[], 0).number, 34);

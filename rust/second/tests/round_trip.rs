@@ -1,8 +1,9 @@
-//! Property: what the encoder writes decodes to the same letters and ends,
-//! whatever the candidates. Catches: a count of 32 cut to 31, a filler with a
-//! wrong letter, a place used past the reference's end, N lost or moved,
-//! wrong size codings.
+//! Property: what the encoder writes decodes to the same letters, names and
+//! ends, whatever the candidates. Catches: a count of 32 cut to 31, a filler
+//! with a wrong letter, a place used past the reference's end, N lost or moved,
+//! wrong size codings, a leading zero lost, a step cut to its width.
 
+use second::corpus::Lent;
 use second::generator::generate_reference;
 use second::prng::Prng;
 use second::proposals::{random_call, EncodeCall};
@@ -16,13 +17,15 @@ fn check(call: &EncodeCall) {
     let block = &out[..written.length as usize];
     assert!(out[block.len()..].iter().all(|&byte| byte == 0xEE));
 
-    let mut letters = vec![0; call.letters.len()];
-    let mut ends = vec![0; call.ends.len()];
-    let read = decode(call.bases, &call.reference, block, &mut letters, &mut ends);
+    let (letters, ends) = (call.letters.len(), call.ends.len());
+    let mut lent = Lent::new(letters, ends, call.names.len(), ends);
+    let read = lent.decode(call.bases, &call.reference, block);
     assert_eq!((read.number, read.length), (0, written.length));
-    assert_eq!((read.reads, read.letters), (ends.len() as u64, letters.len() as u64));
-    assert_eq!(letters, call.letters);
-    assert_eq!(ends, call.ends);
+    assert_eq!((read.reads, read.letters), (ends as u64, letters as u64));
+    assert_eq!(lent.letters, call.letters);
+    assert_eq!(lent.ends, call.ends);
+    assert_eq!(lent.names, call.names);
+    assert_eq!(lent.name_ends, call.name_ends);
     assert_eq!(block_id(block), call.b_id);
 }
 

@@ -3,11 +3,12 @@
 //! not skipped, a section handed out of a refused header.
 
 use second::generator::*;
-use second::mutators::spoil;
+use second::mutators::{spoil, BLOCK_NUMBERS};
 use second::prng::Prng;
 use second::*;
 
-const SHAPE: Shape = Shape { bases: 60, max_reads: 10, max_length: 30, max_carried: 9 };
+const SHAPE: Shape =
+    Shape { bases: 60, max_reads: 10, max_length: 30, max_carried: 9, max_name: 20 };
 
 #[test]
 fn all_nine_lie_one_after_the_other() {
@@ -45,7 +46,7 @@ fn empty_exactly_on_header_refusals() {
     let mut rng = Prng::new(62);
     for _ in 0..2000 {
         let mut plan = generate(&mut rng, SHAPE);
-        let number = rng.range(2, 21) as u32;
+        let number = rng.pick(&BLOCK_NUMBERS[1..]);
         if spoil(&mut plan, number, &mut rng).is_none() {
             continue;
         }

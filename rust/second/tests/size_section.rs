@@ -13,7 +13,7 @@ use second::*;
 fn every_coding_gives_the_lengths() {
     let mut rng = Prng::new(71);
     let reference = generate_reference(&mut rng, 0);
-    let shape = Shape { bases: 0, max_reads: 1, max_length: 100_000, max_carried: 2 };
+    let shape = Shape { bases: 0, max_reads: 1, max_length: 100_000, max_carried: 2, max_name: 9 };
     let marks = [1, 5, 255, 256, 300, 32_767, 32_768, 32_769, 65_535, 65_536, 98_304, 100_000];
     for _ in 0..60 {
         let lengths: Vec<u64> = (0..rng.range(1, 20)).map(|_| rng.pick(&marks)).collect();

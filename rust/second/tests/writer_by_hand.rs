@@ -33,11 +33,12 @@ fn seven_reads_byte_by_byte() {
         0x49, 0x7C, // magic
         121, 0, 0, 0, // l_header
         35, 0, 0, 0, // dna
-        0, 0, 0, 0, 0, 0, 0, 0, 0, 0, 0, 0, // names, qualN, qual
+        27, 0, 0, 0, // names
+        0, 0, 0, 0, 0, 0, 0, 0, // qualN, qual
         8, 0, 0, 0, // size
         1, 0, 0, 0, // N
         0, 0, 0, 0, 0, 0, 0, 0, 0, 0, 0, 0, // m1, m2, m3
-        4, 0, 0, 0, // flags
+        8, 0, 0, 0, // flags
         0, 0, 0, 0, // l_read
         7, 0, 0, 0, // n_reads
         0x19, 0x50, // version 20505
@@ -57,21 +58,24 @@ fn seven_reads_byte_by_byte() {
     expected.extend([0, 3, 0, 1, 1, 0x50]); // local, step 3
     expected.extend([0, 0]); // perfect, step 0
     expected.extend([0x0C, 0, 0, 0, 0, 1]); // global, back at 0
+    expected.extend([1, 0, 0, 0, 4]); // one token, steps of 8 bits
+    expected.extend([14, 0, 0, 0, 0, 0, 0, 0]); // size
+    expected.extend([0, 0, 0, 0, 0, 0, 0, 0, 1, 1, 1, 1, 1, 1]); // names 0 to 6
     expected.extend([0x02, 0xFC, 4, 6, 2, 4, 3, 1]); // sizes, the last the same
     expected.extend([0x20]); // N section
     assert_eq!(written("seven reads"), expected);
 }
 
-/// Reads of one length: flags 0x4 and 0x1, l_read, no size section. No reads:
-/// 0x4 alone.
+/// Reads of one length: flags 0x8 and 0x1, l_read, no size section. No reads:
+/// 0x8 alone.
 #[test]
 fn flag_1_is_set_for_equal_reads() {
     let block = written("equal reads");
-    assert_eq!(block[42..54], [5, 0, 0, 0, 2, 0, 0, 0, 2, 0, 0, 0]);
+    assert_eq!(block[42..54], [9, 0, 0, 0, 2, 0, 0, 0, 2, 0, 0, 0]);
     assert_eq!(section(&block, 4), []);
     let block = written("no reads, b_id 0");
     assert_eq!(block.len(), 121);
-    assert_eq!(block[42..54], [4, 0, 0, 0, 0, 0, 0, 0, 0, 0, 0, 0]);
+    assert_eq!(block[42..54], [8, 0, 0, 0, 0, 0, 0, 0, 0, 0, 0, 0]);
 }
 
 /// 31 N: raw, all letters A, and a list of 0 and thirty steps of 1. 32 N:
@@ -114,10 +118,13 @@ fn refusals_in_order() {
     }
 }
 
-/// 121 header bytes, four group bytes, flag byte and letter, N section.
+/// 121 header bytes, four group bytes, flag byte and letter, the name a, N
+/// section.
 #[test]
 fn a_block_that_just_fits() {
     let block = written("block just fits");
-    assert_eq!(block.len(), 128);
-    assert_eq!(block[121..], [0, 0, 0, 0, 2, 0, 0]);
+    assert_eq!(block.len(), 143);
+    assert_eq!(block[121..127], [0, 0, 0, 0, 2, 0]);
+    assert_eq!(block[127..142], [1, 0, 0, 0, 0, 2, 0, 0, 0, 0, 0, 0, 0, b'a', 0]);
+    assert_eq!(block[142], 0);
 }

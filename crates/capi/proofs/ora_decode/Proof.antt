@@ -21,13 +21,18 @@ same-length c = search needs
 same-length-2 : tie.Need-same-length-2
 same-length-2 c = search needs
 
+same-length-3 : tie.Need-same-length-3
+same-length-3 c = search needs
+
+same-length-4 : tie.Need-same-length-4
+same-length-4 c = search needs
+
 returns : tie.Need-returns
 returns c =
-    let d = c .before .before .before .before .before .before .decode .ensures in (
+    let d = c .before .before .before .before .before .before .before .before .before .before .decode .ensures in (
       c .block-number .ensures ∙ ap (λ (o : Outcome). o .number) (d .0),
       c .before .block-slots .ensures ∙ ap slots (d .0),
       d .1,
-      d .2,
     )
 
 pub ora-decode-spec : {M : Type 1} → statement M
@@ -39,4 +44,6 @@ ora-decode-spec =
     block-number-requires
     same-length
     same-length-2
+    same-length-3
+    same-length-4
     returns)

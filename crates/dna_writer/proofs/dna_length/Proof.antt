@@ -2,7 +2,8 @@
 use mathlib.Core.Path.{refl}
 use native.Mathlib.Omega.{arith}
 use borrow.Author.Needs.{needs}
-use Rattle.format.specs.EncodeAnswer.{EncodeInput, lent}
+use Rattle.format.specs.EncodeAnswer.{EncodeInput}
+use Rattle.dna_writer.specs.Lent.{lentReads}
 use Rattle.dna_writer.proofs.LentLaws.{well-lent}
 use Rattle.dna_writer.proofs.RecordSteps.{section-length}
 use Rattle.dna_writer.proofs.dna_length.Statement.{statement}
@@ -11,8 +12,8 @@ use Rattle.dna_writer.proofs.dna_length.Tie as tie
 abbrev input : (c : tie.Start) → EncodeInput
 input c =
     let a = c .args in
-    lent (a .letters .now) (a .ends .now) (a .positions .now) (a .strands .now) (a .lefts .now)
-    (a .rights .now) 0 0
+    lentReads (a .letters .now) (a .ends .now) (a .positions .now) (a .strands .now) (a .lefts .now)
+    (a .rights .now)
 
 slice-aggregate-records-length : tie.Need-slice-aggregate-records-length
 slice-aggregate-records-length c = refl

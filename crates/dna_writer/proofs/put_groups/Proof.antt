@@ -6,7 +6,8 @@ use native.Mathlib.Omega.{arith}
 use lib.ListN.{length}
 use borrow.Author.Needs.{needs}
 use Rattle.base.specs.Paste.{pasted}
-use Rattle.format.specs.EncodeAnswer.{EncodeInput, lent}
+use Rattle.format.specs.EncodeAnswer.{EncodeInput}
+use Rattle.dna_writer.specs.Lent.{lentReads}
 use Rattle.dna_writer.specs.Section.{recordsOf, dnaBytes, nBytes}
 use Rattle.dna_writer.specs.Writer.{recordsFrom}
 use Rattle.dna_writer.proofs.LentLaws.{WellLent, well-lent}
@@ -24,10 +25,10 @@ Inv-loop bases reference letters ends positions strands lefts rights forward-tab
     (pasted
     (pasted out₀ at
     (dnaBytes
-    (recordsOf bases reference (lent letters ends positions strands lefts rights 0 0)))) n-at
-    (nBytes (recordsOf bases reference (lent letters ends positions strands lefts rights 0 0))))
+    (recordsOf bases reference (lentReads letters ends positions strands lefts rights)))) n-at
+    (nBytes (recordsOf bases reference (lentReads letters ends positions strands lefts rights))))
     n-at out place n-place
-    (recordsFrom bases reference (lent letters ends positions strands lefts rights 0 0) previous
+    (recordsFrom bases reference (lentReads letters ends positions strands lefts rights) previous
     first)
     × (length out ≡ length out₀)
     × (length list ≡ length list₀)
@@ -41,8 +42,8 @@ abbrev μ-loop : tie.MeasureT-loop
 abbrev input : (c : tie.Start Inv-loop μ-loop) → EncodeInput
 input c =
     let a = c .args in
-    lent (a .letters .now) (a .ends .now) (a .positions .now) (a .strands .now) (a .lefts .now)
-    (a .rights .now) 0 0
+    lentReads (a .letters .now) (a .ends .now) (a .positions .now) (a .strands .now) (a .lefts .now)
+    (a .rights .now)
 
 well : (c : tie.Start Inv-loop μ-loop)
     → WellLent (c .args .bases) (c .args .reference .now) (input c)

@@ -8,7 +8,8 @@ use native.Mathlib.Omega.{arith}
 use mathlib.Core.List.{_∷_, flatMap}
 use lib.ListN.{length, getD}
 use borrow.Author.Needs.{needs}
-use Rattle.format.specs.EncodeAnswer.{EncodeInput, lent}
+use Rattle.format.specs.EncodeAnswer.{EncodeInput}
+use Rattle.dna_writer.specs.Lent.{lentReads}
 use Rattle.dna_writer.specs.Section.{recordsOf, bytesOf}
 use Rattle.dna_writer.specs.Writer.{recordsFrom}
 use Rattle.dna_writer.proofs.LentLaws.{WellLent, well-lent, lies-at}
@@ -24,9 +25,9 @@ Inv-loop bases reference letters ends positions strands lefts rights forward-tab
     × (sum ≤ 16777216 * i)
     × (sum
     + length (flatMap bytesOf
-    (recordsFrom bases reference (lent letters ends positions strands lefts rights 0 0) previous i))
+    (recordsFrom bases reference (lentReads letters ends positions strands lefts rights) previous i))
     ≡ length (flatMap bytesOf
-    (recordsOf bases reference (lent letters ends positions strands lefts rights 0 0))))
+    (recordsOf bases reference (lentReads letters ends positions strands lefts rights))))
     × (from ≡ getD (0 ∷ ends) i 0)
     × (length list ≡ length list₀)
 
@@ -39,8 +40,8 @@ abbrev μ-loop : tie.MeasureT-loop
 abbrev input : (c : tie.Start Inv-loop μ-loop) → EncodeInput
 input c =
     let a = c .args in
-    lent (a .letters .now) (a .ends .now) (a .positions .now) (a .strands .now) (a .lefts .now)
-    (a .rights .now) 0 0
+    lentReads (a .letters .now) (a .ends .now) (a .positions .now) (a .strands .now) (a .lefts .now)
+    (a .rights .now)
 
 well : (c : tie.Start Inv-loop μ-loop)
     → WellLent (c .args .bases) (c .args .reference .now) (input c)

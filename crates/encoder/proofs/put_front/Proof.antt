@@ -20,6 +20,9 @@ put-header-requires c κs = omega (arith, c .before .before .before .before .pre
 add-put-size-section : tie.Need-add-put-size-section
 add-put-size-section c = search needs
 
+add-put-size-section-2 : tie.Need-add-put-size-section-2
+add-put-size-section-2 c = search needs
+
 put-size-section-requires : tie.Need-put-size-section-requires
 put-size-section-requires c κs =
     let start = c .before .before .before .before .before .before .before .before in
@@ -38,7 +41,7 @@ returns c ns count =
     let a = start .args in
     let sizes : List ℕ = writtenSizes (stepsFrom 0 (a .ends .now)) in
     sized .put-size-section .ensures
-    ∙ ap (λ (o : List ℕ). pasted o (121 + a .dna) sizes)
+    ∙ ap (λ (o : List ℕ). pasted o (121 + a .dna + a .named) sizes)
     (headed .put-header .ensures
     ∙ ap (λ (f : HeaderFields). pasted (a .out .now) 0 (headerBytes (headerWith f)))
     (headed .before .varying-fields .ensures ns count))
@@ -50,6 +53,7 @@ put-front-spec =
     varying-fields-requires
     put-header-requires
     add-put-size-section
+    add-put-size-section-2
     put-size-section-requires
     same-length
     returns)

@@ -13,17 +13,20 @@ use Rattle.format.specs.RuleBlock.{writtenFields}
 use Rattle.encoder.proofs.varying_fields.Statement.{statement}
 use Rattle.encoder.proofs.varying_fields.Tie as tie
 
-cast-t8 : tie.Need-cast-t8
-cast-t8 c = omega (arith, c .before .pre .dna-fits)
-
 cast-t9 : tie.Need-cast-t9
-cast-t9 c = omega (arith, c .before .pre .sizes-fit)
+cast-t9 c = omega (arith, c .before .pre .dna-fits)
 
-add-t11 : tie.Need-add-t11
-add-t11 c = omega (arith, c .before .pre .few)
+cast-t10 : tie.Need-cast-t10
+cast-t10 c = omega (arith, c .before .pre .named-fits)
 
-cast-t13 : tie.Need-cast-t13
-cast-t13 c = omega (arith, c .before .pre .few)
+cast-t11 : tie.Need-cast-t11
+cast-t11 c = omega (arith, c .before .pre .sizes-fit)
+
+add-t13 : tie.Need-add-t13
+add-t13 c = omega (arith, c .before .pre .few)
+
+cast-t15 : tie.Need-cast-t15
+cast-t15 c = omega (arith, c .before .pre .few)
 
 flags-requires : tie.Need-flags-requires
 flags-requires c κs = search needs
@@ -31,11 +34,11 @@ flags-requires c κs = search needs
 same-length-requires : tie.Need-same-length-requires
 same-length-requires c κs = c .before .before .pre .equal-is
 
-cast-t17 : tie.Need-cast-t17
-cast-t17 c = omega (arith, c .before .before .before .pre .few)
+cast-t19 : tie.Need-cast-t19
+cast-t19 c = omega (arith, c .before .before .before .pre .few)
 
-cast-t18 : tie.Need-cast-t18
-cast-t18 c = omega (arith, c .before .before .before .pre .letters-fit)
+cast-t20 : tie.Need-cast-t20
+cast-t20 c = omega (arith, c .before .before .before .pre .letters-fit)
 
 returns : tie.Need-returns
 unfolding writtenFields groupCount
@@ -47,9 +50,10 @@ returns c ns count =
     λ i.
     record {
       «l_dna» = start .args .dna;
+      «l_names» = start .args .named;
       «l_size» = start .pre .sizes-are i;
       «l_N» = sym count i;
-      flags = (c .before .flags .ensures ∙ ap (λ (t : Bool). cond t 0x5 0x4) equal) i;
+      flags = (c .before .flags .ensures ∙ ap (λ (t : Bool). cond t 0x9 0x8) equal) i;
       «l_read» = (c .same-length .ensures ∙ ap (λ (t : Bool). cond t each 0) equal) i;
       «n_reads» = sym (length-stepsFrom 0 ends) i;
       «b_id» = start .args .id;
@@ -61,12 +65,13 @@ pub varying-fields-spec : {M : Type 1} → statement M
 varying-fields-spec =
     tie.close
     (tie.spec
-    cast-t8
     cast-t9
-    add-t11
-    cast-t13
+    cast-t10
+    cast-t11
+    add-t13
+    cast-t15
     flags-requires
     same-length-requires
-    cast-t17
-    cast-t18
+    cast-t19
+    cast-t20
     returns)

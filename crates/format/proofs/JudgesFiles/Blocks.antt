@@ -25,7 +25,7 @@ use Rattle.format.specs.FileAnswer.{fileOutcome, validated}
 use Rattle.format.specs.Demands.{wrapped, readCounts}
 use Rattle.format.proofs.HeaderLaws.{faults-right}
 use Rattle.format.proofs.BlockLaws.{block-accepts, block-found, FirstBlock, first-block}
-use Rattle.format.proofs.AnswerNumbers.{OwnRefusal, block-own}
+use Rattle.format.proofs.AnswerNumbers.{OwnRefusal, least-own, block-own}
 use Rattle.format.proofs.CountLaws.{file-totals}
 use Rattle.format.proofs.ReadsExactly.Answers.{block-length}
 
@@ -183,7 +183,7 @@ file-found bases reference file fits bytes e =
     let same : fileAnswer bases reference file ≡ blocks = cond-no _ (fits .fits) refl in
     zero-file bases reference file blocks
     (blocks-least 1 (omega arith) (length file) bases reference file (λ input.
-    refuses-too (OwnRefusal 1 21 (readCount (headerOf input))) _ (blockAnswer bases reference input) (λ refusal o. o .least)
+    refuses-too (OwnRefusal 1 21 (readCount (headerOf input))) _ (blockAnswer bases reference input) (λ refusal o. least-own 1 (omega arith) (o .number-own))
     (block-own bases reference input)))
     (λ ds end is. blocks-found (length file) bases reference file ds end bytes (omega arith) is)
     (ap (λ (a : Answer BlockRefusal (List BlockDivision)). fileOutcome reference bases a .number) (sym same) ∙ e)

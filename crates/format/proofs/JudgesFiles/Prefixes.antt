@@ -1,4 +1,4 @@
--- A prefix of a file has a prefix of its blocks, cuts and reads. Assumes nothing.
+-- A prefix of a file has a prefix of its blocks, cuts, reads and names. Assumes nothing.
 use mathlib.Core.Path.{_≡_, refl, sym, ap, ap₂, _∙_, subst}
 use Prim.Native.Nat.{ℕ, _+_, _≤_}
 use native.Mathlib.Omega.{arith}
@@ -8,40 +8,43 @@ use lib.ListN.{length, length-append}
 use Rattle.base.specs.Lists.{All, Begins}
 use Rattle.dna.specs.Division.{Divides, SameDivision}
 use Rattle.dna.proofs.OneDivision.{one-division}
-use Rattle.format.specs.Sections.{sectionOf, dnaNumber, nNumber}
-use Rattle.format.specs.WellFormed.{BlockDivision, DividesBlock}
+use Rattle.format.specs.Sections.{sectionOf, dnaNumber, namesNumber, nNumber}
+use Rattle.format.specs.WellFormed.{BlockDivision, DividesBlock, WellFormed}
 use Rattle.format.specs.Joined.{Joined, AllWellFormed, CutAt, DivideBlocks, blockReads}
-use Rattle.format.specs.Joined.{fileReads}
+use Rattle.format.specs.Joined.{fileReads, fileNames}
 use Rattle.format.specs.Demands.{Prefix}
-use Rattle.format.proofs.BlockLaws.{one-lengths}
+use Rattle.format.proofs.BlockLaws.{one-lengths, one-names, names-short}
 use Rattle.format.proofs.JudgesFiles.Blocks.{block-some, blocks-begin, one-list}
 
 -- ---- Divisions
 
--- A block has one list of lengths, and one division.
-pub one-divided : (bases : ℕ) (block : List ℕ) (one other : BlockDivision) → DividesBlock bases block one → DividesBlock bases block other
-    → (one .lengths ≡ other .lengths) × SameDivision (one .division) (other .division)
-one-divided bases block one other d e =
+-- A block has one list of lengths, one division, and one list of names.
+pub one-divided : (bases : ℕ) (block : List ℕ) (one other : BlockDivision) → WellFormed bases block → DividesBlock bases block one
+    → DividesBlock bases block other
+    → (one .lengths ≡ other .lengths) × SameDivision (one .division) (other .division) × (one .names ≡ other .names)
+one-divided bases block one other wf d e =
     let lengths : one .lengths ≡ other .lengths = one-lengths block (one .lengths) (other .lengths) (d .lengths-are) (e .lengths-are) in (
       lengths,
       one-division bases (other .lengths) (sectionOf block nNumber) (sectionOf block dnaNumber) (one .division) (other .division)
           (subst (λ (l : List ℕ). Divides bases l (sectionOf block nNumber) (sectionOf block dnaNumber) (one .division)) lengths (d .divides)) (e .divides),
+      one-names block (one .names) (other .names) (names-short block (wf .bytes)) (d .names-are) (e .names-are),
     )
 
-divided-same : (bases : ℕ) (block : List ℕ) (one other : BlockDivision) → DividesBlock bases block one → DividesBlock bases block other → one ≡ other
-divided-same bases block one other d e =
-    let same = one-divided bases block one other d e in
-    ap₂ (λ l x. record { lengths = l; division = x }) (same .0) (same .1)
+divided-same : (bases : ℕ) (block : List ℕ) (one other : BlockDivision) → WellFormed bases block → DividesBlock bases block one
+    → DividesBlock bases block other → one ≡ other
+divided-same bases block one other wf d e =
+    let same = one-divided bases block one other wf d e in
+    λ i. record { lengths = same .0 i; division = same .1 i; names = same .2 i }
 
-divisions-begin : (bases : ℕ) (bs more : List (List ℕ)) (ds es : List BlockDivision) → DivideBlocks bases bs ds → DivideBlocks bases (bs ++ more) es
-    → Begins ds es
-divisions-begin bases [] more [] es d e = (es, refl)
-divisions-begin bases [] more (x ∷ ds) es d e = absurd d
-divisions-begin bases (b ∷ bs) more [] es d e = absurd d
-divisions-begin bases (b ∷ bs) more (x ∷ ds) [] d e = absurd e
-divisions-begin bases (b ∷ bs) more (x ∷ ds) (y ∷ es) d e =
-    let rest = divisions-begin bases bs more ds es (d .1) (e .1) in
-    (rest .0, ap₂ _∷_ (divided-same bases b x y (d .0) (e .0)) (rest .1))
+divisions-begin : (bases : ℕ) (bs more : List (List ℕ)) (ds es : List BlockDivision) → AllWellFormed bases bs → DivideBlocks bases bs ds
+    → DivideBlocks bases (bs ++ more) es → Begins ds es
+divisions-begin bases [] more [] es w d e = (es, refl)
+divisions-begin bases [] more (x ∷ ds) es w d e = absurd d
+divisions-begin bases (b ∷ bs) more [] es w d e = absurd d
+divisions-begin bases (b ∷ bs) more (x ∷ ds) [] w d e = absurd e
+divisions-begin bases (b ∷ bs) more (x ∷ ds) (y ∷ es) w d e =
+    let rest = divisions-begin bases bs more ds es (w .1) (d .1) (e .1) in
+    (rest .0, ap₂ _∷_ (divided-same bases b x y (w .0) (d .0) (e .0)) (rest .1))
 
 flatMap-append : {A B : Type 0} (f : A → List B) (xs ys : List A) → flatMap f (xs ++ ys) ≡ flatMap f xs ++ flatMap f ys
 unfolding flatMap
@@ -105,18 +108,25 @@ cut-back bases front whole bs more place wfs wgs j k h cut =
 
 pub prefix : (bases : ℕ) (reference front whole : List ℕ) (bs cs : List (List ℕ)) → AllWellFormed bases bs → AllWellFormed bases cs
     → Joined bs front → Joined cs whole → Begins front whole → Prefix bases reference front whole bs cs
-unfolding fileReads
+unfolding fileReads fileNames
 prefix bases reference front whole bs cs wfs wgs j k begins =
     let more = blocks-begin bases bs cs (begins .0) wfs wgs (ap (λ (f : List ℕ). f ++ begins .0) j ∙ begins .1 ∙ sym k) in
     let wgs′ : AllWellFormed bases (bs ++ more .0) = subst (λ (x : List (List ℕ)). AllWellFormed bases x) (sym (more .1)) wgs in
     let k′ : Joined (bs ++ more .0) whole = ap flatten (more .1) ∙ k in
+    let begin : (ds es : List BlockDivision) → DivideBlocks bases bs ds → DivideBlocks bases cs es → Begins ds es = λ ds es d e.
+    divisions-begin bases bs (more .0) ds es wfs d (subst (λ (x : List (List ℕ)). DivideBlocks bases x es) (sym (more .1)) e) in
     record {
       blocks = (more .0, more .1);
       cuts = λ place h.
           (cut-on bases front whole bs (more .0) place wfs wgs′ j k′, cut-back bases front whole bs (more .0) place wfs wgs′ j k′ h);
       reads = λ ds es d e.
-          let rest = divisions-begin bases bs (more .0) ds es d (subst (λ (x : List (List ℕ)). DivideBlocks bases x es) (sym (more .1)) e) in (
+          let rest = begin ds es d e in (
             flatMap (blockReads reference bases) (rest .0),
             sym (flatMap-append (blockReads reference bases) ds (rest .0)) ∙ ap (flatMap (blockReads reference bases)) (rest .1),
+          );
+      names = λ ds es d e.
+          let rest = begin ds es d e in (
+            flatMap (λ block. block .names) (rest .0),
+            sym (flatMap-append (λ block. block .names) ds (rest .0)) ∙ ap (flatMap (λ block. block .names)) (rest .1),
           );
     }

@@ -2,16 +2,16 @@
 use mathlib.Core.Path.{_≡_, refl, sym, ap, _∙_, subst}
 use Prim.Native.Nat.{ℕ, zero, suc, _≤_, _<_}
 use native.Mathlib.Omega.{arith}
-use mathlib.Core.Bool.{Bool, true, false, cond}
+use mathlib.Core.Bool.{Bool, true, false, cond, _||_}
 use mathlib.Core.List.{List, [], _∷_, _++_, flatten, append-assoc}
 use lib.ListN.{length, drop}
 use lib.Dec.{leb, eqb}
-use borrow.Author.Tests.{le-leb, eqb-false}
+use borrow.Author.Tests.{le-leb, eqb-false, eq-eqb}
 use Rattle.base.specs.Lists.{All, AllBytes}
 use Rattle.base.specs.Faults.{Fault}
 use Rattle.base.specs.Paste.{pasted}
 use Rattle.base.specs.Answer.{checked, firstNumber, Answer, found, refused, refusedAs}
-use Rattle.base.proofs.Tests.{both-and}
+use Rattle.base.proofs.Tests.{both-and, or-right}
 use Rattle.base.proofs.AnswerLaws.{absurd-refused, andThen-stops, found-refusedAs, refusedAs-stops}
 use Rattle.base.proofs.AnswerLaws.{Refuses, refuses-with, cond-parts}
 use Rattle.dna.specs.Reference.{referenceSizeWrong}
@@ -22,23 +22,30 @@ use Rattle.format.specs.WellFormed.{BlockDivision}
 use Rattle.format.specs.Joined.{AllWellFormed}
 use Rattle.format.specs.Outcome.{Outcome, refusal, acceptedBlock}
 use Rattle.format.specs.BlockAnswer.{blockAnswer, blockOutcome, validatedBlock, decodeAnswer}
-use Rattle.format.specs.BlockAnswer.{decoded, lettersAfter, endsAfter, decodedLetters}
-use Rattle.format.specs.BlockAnswer.{decodedEnds}
+use Rattle.format.specs.BlockAnswer.{Buffers, decoded, buffersAfter, decodedBuffers}
 use Rattle.format.specs.FileAnswer.{BlockRefusal, ofBlock, inFirst, inLater, blocksAnswer}
 use Rattle.format.specs.FileAnswer.{fileAnswer, fileOutcome, validated}
 use Rattle.format.specs.EncodeAnswer.{EncodeInput, blockOf, encodeFaults, encodeNumber}
 use Rattle.format.specs.EncodeAnswer.{encoded, encodedBuffer}
-use Rattle.format.specs.Demands.{upTo, writersOwn, Refusal, FileRefusal}
-use Rattle.format.proofs.AnswerNumbers.{OwnRefusal, reference-refused, block-own, decode-own}
+use Rattle.format.specs.Demands.{upTo, judgingOwn, decodingOwn, writersOwn}
+use Rattle.format.specs.Demands.{Refusal, FileRefusal}
+use Rattle.format.proofs.AnswerNumbers.{Own, between, names, OwnRefusal}
+use Rattle.format.proofs.AnswerNumbers.{reference-refused, block-own, decode-own}
 use Rattle.format.proofs.JudgesFiles.Blocks.{FirstOf, first-of}
 
--- The outcome of a refusal.
-own-refusal : (last reads number block read : ℕ) → OwnRefusal 1 last reads (ofRead read number)
-    → Refusal (upTo last) reads (refusal number block read)
+-- A number that is one of a call's own.
+own-number : (last number : ℕ) → Own 1 last number → upTo last number || eqb number 40 ≡ true
 unfolding upTo
-own-refusal last reads number block read o =
+own-number last number (between least most) =
+    ap (λ (t : Bool). t || eqb number 40) (both-and (leb 1 number) (leb number last) (le-leb 1 number least) (le-leb number last most))
+own-number last number (names e) = or-right (upTo last number) (eqb number 40) (eq-eqb number 40 e)
+
+-- The outcome of a refusal.
+own-refusal : (own : ℕ → Bool) (last reads number block read : ℕ) → ((n : ℕ) → Own 1 last n → own n ≡ true)
+    → OwnRefusal 1 last reads (ofRead read number) → Refusal own reads (refusal number block read)
+own-refusal own last reads number block read owns o =
     record {
-      own-number = both-and (leb 1 number) (leb number last) (le-leb 1 number (o .least)) (le-leb number last (o .most));
+      own-number = owns number (o .number-own);
       no-blocks = refl;
       no-bytes = refl;
       no-counts = refl;
@@ -47,43 +54,39 @@ own-refusal last reads number block read o =
 
 -- ---- Blocks
 
-outcome-refuses : (last reads bases : ℕ) (reference : List ℕ) (answer : Walk BlockDivision) → Refuses (OwnRefusal 1 last reads) answer
+outcome-refuses : (mine : ℕ → Bool) (last reads bases : ℕ) (reference : List ℕ) (answer : Walk BlockDivision)
+    → ((n : ℕ) → Own 1 last n → mine n ≡ true) → Refuses (OwnRefusal 1 last reads) answer
     → 0 < blockOutcome reference bases answer .number
-    → Refusal (upTo last) reads (blockOutcome reference bases answer) × (blockOutcome reference bases answer .block ≡ 0)
+    → Refusal mine reads (blockOutcome reference bases answer) × (blockOutcome reference bases answer .block ≡ 0)
 unfolding blockOutcome
-outcome-refuses last reads bases reference (found divided next) own some = absurd (omega arith)
-outcome-refuses last reads bases reference (refused why) own some =
-    (own-refusal last reads (why .number) 0 (why .read) own, refl)
+outcome-refuses mine last reads bases reference (found divided next) owns own some = absurd (omega arith)
+outcome-refuses mine last reads bases reference (refused why) owns own some =
+    (own-refusal mine last reads (why .number) 0 (why .read) owns own, refl)
 
-letters-kept : (reference : List ℕ) (bases : ℕ) (answer : Walk BlockDivision) (letters : List ℕ)
-    → 0 < blockOutcome reference bases answer .number → lettersAfter reference bases answer letters ≡ letters
-unfolding blockOutcome lettersAfter
-letters-kept reference bases (found divided next) letters some = absurd (omega arith)
-letters-kept reference bases (refused why) letters some = refl
+buffers-kept : (reference : List ℕ) (bases : ℕ) (answer : Walk BlockDivision) (buffers : Buffers)
+    → 0 < blockOutcome reference bases answer .number → buffersAfter reference bases answer buffers ≡ buffers
+unfolding blockOutcome buffersAfter
+buffers-kept reference bases (found divided next) buffers some = absurd (omega arith)
+buffers-kept reference bases (refused why) buffers some = refl
 
-ends-kept : (reference : List ℕ) (bases : ℕ) (answer : Walk BlockDivision) (ends : List ℕ)
-    → 0 < blockOutcome reference bases answer .number → endsAfter answer ends ≡ ends
-unfolding blockOutcome endsAfter
-ends-kept reference bases (found divided next) ends some = absurd (omega arith)
-ends-kept reference bases (refused why) ends some = refl
-
-pub decode-refuses : (bases : ℕ) (reference input letters ends : List ℕ) → 0 < decoded bases reference input letters ends .number
-    → Refusal (upTo 22) (readCount (headerOf input)) (decoded bases reference input letters ends)
-    × (decoded bases reference input letters ends .block ≡ 0)
-    × (decodedLetters bases reference input letters ends ≡ letters)
-    × (decodedEnds bases reference input letters ends ≡ ends)
-unfolding decoded decodedLetters decodedEnds
-decode-refuses bases reference input letters ends some =
-    let answer : Walk BlockDivision = decodeAnswer bases reference input letters ends in
-    let r = outcome-refuses 22 (readCount (headerOf input)) bases reference answer (decode-own bases reference input letters ends) some in
-    (r .0, r .1, letters-kept reference bases answer letters some, ends-kept reference bases answer ends some)
+pub decode-refuses : (bases : ℕ) (reference input : List ℕ) (buffers : Buffers) → 0 < decoded bases reference input buffers .number
+    → Refusal decodingOwn (readCount (headerOf input)) (decoded bases reference input buffers)
+    × (decoded bases reference input buffers .block ≡ 0)
+    × (decodedBuffers bases reference input buffers ≡ buffers)
+unfolding decoded decodedBuffers decodingOwn
+decode-refuses bases reference input buffers some =
+    let answer : Walk BlockDivision = decodeAnswer bases reference input buffers in
+    let r = outcome-refuses decodingOwn 22 (readCount (headerOf input)) bases reference answer (own-number 22)
+    (decode-own bases reference input buffers) some in
+    (r .0, r .1, buffers-kept reference bases answer buffers some)
 
 pub block-refuses : (bases : ℕ) (reference input : List ℕ) → 0 < validatedBlock bases reference input .number
-    → Refusal (upTo 21) (readCount (headerOf input)) (validatedBlock bases reference input)
+    → Refusal judgingOwn (readCount (headerOf input)) (validatedBlock bases reference input)
     × (validatedBlock bases reference input .block ≡ 0)
-unfolding validatedBlock
+unfolding validatedBlock judgingOwn
 block-refuses bases reference input some =
-    outcome-refuses 21 (readCount (headerOf input)) bases reference (blockAnswer bases reference input) (block-own bases reference input) some
+    outcome-refuses judgingOwn 21 (readCount (headerOf input)) bases reference (blockAnswer bases reference input) (own-number 21)
+    (block-own bases reference input) some
 
 -- ---- Files
 
@@ -154,7 +157,7 @@ answer-refused bases reference file why bytes e =
 
 refused-file : (bases : ℕ) (reference file : List ℕ) (why : BlockRefusal) → RefusedAfter bases reference file why
     → FileRefusal bases reference file (refusal (why .number) (why .block) (why .read))
-unfolding validatedBlock blockOutcome
+unfolding validatedBlock blockOutcome judgingOwn
 refused-file bases reference file why r =
     let reads : ℕ = readCount (headerOf (r .rest)) in
     record {
@@ -165,7 +168,7 @@ refused-file bases reference file why r =
       block-index = r .index;
       refused = ap (blockOutcome reference bases) (r .answered);
       nothing =
-          own-refusal 21 reads (why .number) (why .block) (why .read)
+          own-refusal judgingOwn 21 reads (why .number) (why .block) (why .read) (own-number 21)
           (refuses-with (OwnRefusal 1 21 reads) (r .answered) (block-own bases reference (r .rest)));
     }
 
@@ -198,7 +201,7 @@ encode-number : (bases : ℕ) (reference : List ℕ) (input : EncodeInput) (out 
     → writersOwn (encodeNumber bases reference input out) ≡ true
 unfolding encodeNumber encodeFaults writersOwn
 encode-number bases reference input out some =
-    first-own writersOwn (encodeFaults bases reference input (length out)) (refl, (refl, (refl, (refl, (refl, (refl, tt)))))) some
+    first-own writersOwn (encodeFaults bases reference input (length out)) (refl, (refl, (refl, (refl, (refl, (refl, (refl, tt))))))) some
 
 pub encode-refuses : (bases : ℕ) (reference : List ℕ) (input : EncodeInput) (out : List ℕ) → 0 < encoded bases reference input out .number
     → Refusal writersOwn 0 (encoded bases reference input out)

@@ -14,10 +14,10 @@ use Rattle.base.specs.Answer.{checked, firstNumber, Answer, Scan, found, refuse
 use Rattle.base.specs.Answer.{refusedAs}
 use Rattle.base.proofs.ListLaws.{by-test}
 use Rattle.base.proofs.AnswerLaws.{refused-same, absurd-refused, checked-none, checked-first}
-use Rattle.base.proofs.AnswerLaws.{andThen-found, andThen-stops, andThen-refused, refusedAs-found}
+use Rattle.base.proofs.AnswerLaws.{andThen-found, andThen-stops, andThen-refused}
 use Rattle.base.proofs.AnswerLaws.{Refuses, checked-refuses, andThen-refuses}
 use Rattle.base.proofs.AnswerLaws.{refuses-too, refuses-with, cond-yes, cond-no}
-use Rattle.base.proofs.Tests.{or-right}
+use Rattle.base.proofs.Tests.{or-neither}
 use Rattle.dna.specs.Reference.{referenceSizeWrong, ReferenceFits}
 use Rattle.dna.specs.Division.{Division, Divides}
 use Rattle.dna.specs.FirstFault.{DnaRefused}
@@ -34,69 +34,23 @@ use Rattle.format.specs.Lengths.{LengthsAre, LengthsInvalid, lengthFault
 use Rattle.format.specs.WellFormed.{BlockDivision, DividesBlock, WellFormed}
 use Rattle.format.specs.Joined.{blockReads}
 use Rattle.format.specs.Outcome.{Outcome, refusal}
-use Rattle.format.specs.BlockAnswer.{lengthsAnswer, dnaTrailing, blockAnswer, blockOutcome}
-use Rattle.format.specs.BlockAnswer.{validatedBlock, capacityTooSmall, decodeAnswer, decoded}
+use Rattle.format.specs.BlockAnswer.{lengthsAnswer, dnaTrailing, dnaAnswer, blockAnswer}
+use Rattle.format.specs.BlockAnswer.{blockOutcome, validatedBlock, Buffers, capacityTooSmall}
+use Rattle.format.specs.BlockAnswer.{decodeAnswer, decoded}
 use Rattle.format.specs.FileAnswer.{BlockRefusal, ofBlock, blocksAnswer, fileAnswer}
 use Rattle.format.specs.FileAnswer.{fileOutcome, validated}
 use Rattle.format.specs.EncodeAnswer.{EncodeInput, encodeFaults, encodeNumber, encoded}
 use Rattle.format.specs.Demands.{Room, headerRows, writerRows, GivenExactly, GivenFirst}
 use Rattle.format.proofs.BlockLaws.{lengths-find, lengths-found, section-bytes}
 use Rattle.format.proofs.BlockLaws.{groups-counted, block-accepts}
-use Rattle.format.proofs.AnswerNumbers.{OwnRefusal, afterLengths, afterReference}
+use Rattle.format.proofs.AnswerNumbers.{DnaRefusal, OwnRefusal, least-own, afterLengths}
 use Rattle.format.proofs.AnswerNumbers.{past-reference, reference-refused, lengths-own}
-use Rattle.format.proofs.AnswerNumbers.{reference-own}
+use Rattle.format.proofs.AnswerNumbers.{block-least}
 use Rattle.format.proofs.JudgesFiles.Blocks.{AtLeast, blocks-least}
-
--- ---- Answers and outcomes
-
--- A number is given where the answer refuses with it.
-answer-outcome : (bases : ℕ) (reference input : List ℕ) (number read : ℕ) → blockAnswer bases reference input ≡ refused (ofRead read number)
-    → validatedBlock bases reference input ≡ refusal number 0 read
-unfolding validatedBlock blockOutcome
-answer-outcome bases reference input number read e = ap (blockOutcome reference bases) e
-
--- An outcome that is a refusal is one of the answer.
-refused-answer : (bases : ℕ) (reference : List ℕ) (answer : Walk BlockDivision) (number read : ℕ) → 0 < number
-    → blockOutcome reference bases answer ≡ refusal number 0 read → answer ≡ refused (ofRead read number)
-unfolding blockOutcome
-refused-answer bases reference (found divided next) number read some e =
-    let z : 0 ≡ number = ap (λ (o : Outcome). o .number) e in absurd (omega arith)
-refused-answer bases reference (refused why) number read some e =
-    ap (λ (o : Outcome). refused (ofRead (o .read) (o .number))) e
-
-outcome-answer : (bases : ℕ) (reference input : List ℕ) (number read : ℕ) → 0 < number
-    → validatedBlock bases reference input ≡ refusal number 0 read → blockAnswer bases reference input ≡ refused (ofRead read number)
-unfolding validatedBlock
-outcome-answer bases reference input number read some e =
-    refused-answer bases reference (blockAnswer bases reference input) number read some e
-
--- ---- Stages
-
--- What follows the header.
-abbrev afterHeader : (bases : ℕ) (input : List ℕ) → Walk BlockDivision
-afterHeader bases input =
-    andThen (refusedAs (λ n. ofRead 0 9) (lengthsAnswer input)) (λ lengths end. afterLengths bases input lengths)
-
-past-header : (bases : ℕ) (reference input : List ℕ) → ReferenceFits bases reference → NoneFits (headerFaults input)
-    → blockAnswer bases reference input ≡ afterHeader bases input
-past-header bases reference input fits none =
-    past-reference bases reference input (fits .fits) ∙ checked-none _ (headerFaults input) _ none
-
-past-lengths : (bases : ℕ) (input lengths : List ℕ) → LengthsAre input lengths → afterHeader bases input ≡ afterLengths bases input lengths
-past-lengths bases input lengths are =
-    andThen-found _ (refusedAs-found (λ n. ofRead 0 9) (lengths-find input lengths are .1)) refl
-
--- The walk over the DNA section, and 21.
-abbrev dnaStage : (bases : ℕ) (input lengths : List ℕ) → Walk BlockDivision
-dnaStage bases input lengths =
-    andThen (sectionWalk bases lengths (sectionOf input nNumber) (sectionOf input dnaNumber)) (λ division next.
-    checked (refusedAt 0) (fault 21 (dnaTrailing input next) ∷ [])
-    (found (record { lengths = lengths; division = division }) (blockLength (headerOf input))))
-
-past-sizes : (bases : ℕ) (reference input lengths : List ℕ) → ReferenceFits bases reference → NoneFits (headerFaults input)
-    → LengthsAre input lengths → NoneFits (lengthFaults input lengths) → blockAnswer bases reference input ≡ dnaStage bases input lengths
-past-sizes bases reference input lengths fits none are right =
-    past-header bases reference input fits none ∙ past-lengths bases input lengths are ∙ checked-none _ (lengthFaults input lengths) _ right
+use Rattle.format.proofs.RefusedNothing.Stages.{answer-outcome, refused-answer}
+use Rattle.format.proofs.RefusedNothing.Stages.{outcome-answer, afterHeader, past-header}
+use Rattle.format.proofs.RefusedNothing.Stages.{past-lengths, dnaStage, past-sizes}
+use Rattle.format.proofs.RefusedNothing.Stages.{dna-refuses, refused-parts, forty}
 
 -- ---- 2 to 8
 
@@ -105,7 +59,8 @@ header-first : (bases : ℕ) (reference input : List ℕ) → ReferenceFits base
 unfolding headerFaults tableFaults
 header-first bases reference input fits some =
     answer-outcome bases reference input _ 0
-    (past-reference bases reference input (fits .fits) ∙ checked-first (refusedAt 0) (headerFaults input) _ some)
+    (dna-refuses bases reference input _
+    (past-reference bases reference input (fits .fits) ∙ checked-first (refusedAt 0) (headerFaults input) _ some))
 
 -- ---- 9
 
@@ -113,12 +68,14 @@ nine : (bases : ℕ) (reference input : List ℕ) → AllBytes input → Referen
     → (validatedBlock bases reference input ≡ refusal 9 0 0) ↔ LengthsInvalid input
 unfolding andThen refusedAs
 nine bases reference input bytes fits none =
-    let past : blockAnswer bases reference input ≡ afterHeader bases input = past-header bases reference input fits none in (
+    let past : dnaAnswer bases reference input ≡ afterHeader bases input = past-header bases reference input fits none in (
       λ e lengths are.
-          let nine′ : afterLengths bases input lengths ≡ refused (ofRead 0 9) =
-          sym (past-lengths bases input lengths are) ∙ sym past ∙ outcome-answer bases reference input 9 0 (omega arith) e in
-          let own = refuses-with (OwnRefusal 10 21 (length lengths)) nine′ (lengths-own bases input lengths) in
-          omega (arith, own .least),
+          refused-parts bases reference input (ofRead 0 9) (outcome-answer bases reference input 9 0 (omega arith) e)
+          (λ e₁.
+          let nine′ : afterLengths bases input lengths ≡ refused (ofRead 0 9) = sym (past-lengths bases input lengths are) ∙ sym past ∙ e₁ in
+          let own = refuses-with (DnaRefusal 10 21 (length lengths)) nine′ (lengths-own bases input lengths) in
+          omega (arith, own .least))
+          (λ same. let z : 9 ≡ 40 = ap (λ (r : ReadRefusal). r .number) same in omega arith),
       λ invalid.
           let go : (scan : Scan (List ℕ)) → lengthsAnswer input ≡ scan
           → andThen (refusedAs (λ n. ofRead 0 9) scan) (λ lengths end. afterLengths bases input lengths) ≡ refused (ofRead 0 9)
@@ -126,7 +83,7 @@ nine bases reference input bytes fits none =
             | found lengths next ↦ λ e. absurd (invalid lengths (lengths-found input lengths next (section-bytes input sizeNumber bytes) e))
             | refused number ↦ λ e. refl
           ] in
-          answer-outcome bases reference input 9 0 (past ∙ go (lengthsAnswer input) refl),
+          answer-outcome bases reference input 9 0 (dna-refuses bases reference input _ (past ∙ go (lengthsAnswer input) refl)),
     )
 
 -- ---- 10 and 11 by length
@@ -136,8 +93,9 @@ sizes-first : (bases : ℕ) (reference input lengths : List ℕ) → ReferenceFi
     → validatedBlock bases reference input ≡ refusal (firstNumber (lengthFaults input lengths)) 0 0
 sizes-first bases reference input lengths fits none are some =
     answer-outcome bases reference input _ 0
+    (dna-refuses bases reference input _
     (past-header bases reference input fits none ∙ past-lengths bases input lengths are
-    ∙ checked-first (refusedAt 0) (lengthFaults input lengths) _ some)
+    ∙ checked-first (refusedAt 0) (lengthFaults input lengths) _ some))
 
 -- ---- The DNA section
 
@@ -152,7 +110,7 @@ stage-refused bases input lengths why e walks over =
     andThen-stops (sectionWalk bases lengths (sectionOf input nNumber) (sectionOf input dnaNumber)) _ e walks
     (λ division next e₁ e₂.
     let trailing : Bool = ltb next (length (sectionOf input dnaNumber)) in
-    let done : Walk BlockDivision = found (record { lengths = lengths; division = division }) (blockLength (headerOf input)) in
+    let done : Walk BlockDivision = found (record { lengths = lengths; division = division; names = [] }) (blockLength (headerOf input)) in
     by-test trailing
     (λ t.
     let same : refused (ofRead 0 21) ≡ refused why = sym (cond-yes done t refl) ∙ e₂ in
@@ -167,19 +125,22 @@ dna-refused : (bases : ℕ) (reference input lengths : List ℕ) (number read : 
 dna-refused bases reference input lengths number read bytes fits none are right some most =
     let dna : List ℕ = sectionOf input dnaNumber in
     let nSection : List ℕ = sectionOf input nNumber in
-    let past : blockAnswer bases reference input ≡ dnaStage bases input lengths = past-sizes bases reference input lengths fits none are right in (
+    let past : dnaAnswer bases reference input ≡ dnaStage bases input lengths = past-sizes bases reference input lengths fits none are right in (
       λ e.
-          stage-refused bases input lengths (ofRead read number)
-          (sym past ∙ outcome-answer bases reference input number read some e)
+          refused-parts bases reference input (ofRead read number) (outcome-answer bases reference input number read some e)
+          (λ e₁.
+          stage-refused bases input lengths (ofRead read number) (sym past ∙ e₁)
           (λ walk.
           first-fault bases lengths nSection dna (ofRead read number) (section-bytes input dnaNumber bytes)
           (groups-counted input lengths are right) walk)
           (λ division next walk less same.
-          let z : number ≡ 21 = ap (λ (r : ReadRefusal). r .number) same in absurd (omega arith)),
+          let z : number ≡ 21 = ap (λ (r : ReadRefusal). r .number) same in absurd (omega arith)))
+          (λ same. let z : number ≡ 40 = ap (λ (r : ReadRefusal). r .number) same in absurd (omega arith)),
       λ refuses.
           answer-outcome bases reference input number read
+          (dna-refuses bases reference input _
           (past
-          ∙ andThen-refused _ (refused-exactly bases lengths nSection dna number read (section-bytes input dnaNumber bytes) refuses)),
+          ∙ andThen-refused _ (refused-exactly bases lengths nSection dna number read (section-bytes input dnaNumber bytes) refuses))),
     )
 
 twenty-one : (bases : ℕ) (reference input lengths : List ℕ) → AllBytes input → ReferenceFits bases reference → NoneFits (headerFaults input)
@@ -191,9 +152,11 @@ unfolding checked dnaTrailing
 twenty-one bases reference input lengths bytes fits none are right =
     let dna : List ℕ = sectionOf input dnaNumber in
     let nSection : List ℕ = sectionOf input nNumber in
-    let past : blockAnswer bases reference input ≡ dnaStage bases input lengths = past-sizes bases reference input lengths fits none are right in (
+    let past : dnaAnswer bases reference input ≡ dnaStage bases input lengths = past-sizes bases reference input lengths fits none are right in (
       λ e.
-          stage-refused bases input lengths (ofRead 0 21) (sym past ∙ outcome-answer bases reference input 21 0 (omega arith) e)
+          refused-parts bases reference input (ofRead 0 21) (outcome-answer bases reference input 21 0 (omega arith) e)
+          (λ e₁.
+          stage-refused bases input lengths (ofRead 0 21) (sym past ∙ e₁)
           (λ walk.
           let o = refuses-with (OwnAt 0 (length lengths)) walk (walk-own bases lengths nSection dna) in
           absurd (omega (arith, o .number .most)))
@@ -202,28 +165,37 @@ twenty-one bases reference input lengths bytes fits none are right =
             next,
             less,
             walk-front bases lengths nSection dna division next (section-bytes input dnaNumber bytes) (groups-counted input lengths are right) walk .divides,
-          )),
+          )))
+          (λ same. let z : 21 ≡ 40 = ap (λ (r : ReadRefusal). r .number) same in absurd (omega arith)),
       λ front.
           answer-outcome bases reference input 21 0
+          (dna-refuses bases reference input _
           (past
           ∙ andThen-found _ (front-walk bases lengths nSection dna (front .0) (front .1) (omega (arith, front .2)) (front .3))
-          (cond-yes _ (lt-ltb (front .1) (length dna) (front .2)) refl)),
+          (cond-yes _ (lt-ltb (front .1) (length dna) (front .2)) refl))),
     )
 
 -- ---- 22
 
-pub no-room : (bases : ℕ) (reference block rest letters ends : List ℕ) (divided : BlockDivision) → ReferenceFits bases reference
-    → WellFormed bases block → DividesBlock bases block divided → (Room reference bases (length letters) (length ends) divided → ⊥)
-    → decoded bases reference (block ++ rest) letters ends ≡ refusal 22 0 0
+pub no-room : (bases : ℕ) (reference block rest : List ℕ) (buffers : Buffers) (divided : BlockDivision) → ReferenceFits bases reference
+    → WellFormed bases block → DividesBlock bases block divided → (Room reference bases buffers divided → ⊥)
+    → decoded bases reference (block ++ rest) buffers ≡ refusal 22 0 0
 unfolding decoded decodeAnswer blockOutcome capacityTooSmall checked
-no-room bases reference block rest letters ends divided fits wf d none =
-    let many : Bool = ltb (length letters) (length (flatten (blockReads reference bases divided))) in
-    let long : Bool = ltb (length ends) (length (divided .lengths)) in
-    let full : many || long ≡ true =
-    by-test many (λ t. ap (λ (b : Bool). b || long) t)
+no-room bases reference block rest buffers divided fits wf d none =
+    let full : capacityTooSmall reference bases buffers divided ≡ true =
+    by-test (capacityTooSmall reference bases buffers divided) (λ t. t)
     (λ t.
-    by-test long (λ u. or-right many long u)
-    (λ u. absurd (none (record { letters = ltb-false (length letters) _ t; ends = ltb-false (length ends) _ u })))) in
+    let letters = or-neither (ltb (length (buffers .letters)) (length (flatten (blockReads reference bases divided)))) _ t in
+    let ends = or-neither (ltb (length (buffers .ends)) (length (divided .lengths))) _ (letters .1) in
+    let names = or-neither (ltb (length (buffers .names)) (length (flatten (divided .names)))) _ (ends .1) in
+    absurd
+    (none
+    (record {
+      letters = ltb-false (length (buffers .letters)) _ (letters .0);
+      ends = ltb-false (length (buffers .ends)) _ (ends .0);
+      names = ltb-false (length (buffers .names)) _ (names .0);
+      nameEnds = ltb-false (length (buffers .nameEnds)) _ (names .1);
+    }))) in
     ap (blockOutcome reference bases)
     (andThen-found _ (block-accepts bases reference block rest divided fits wf d) (cond-yes (found divided (length block)) full refl))
 
@@ -234,10 +206,10 @@ unfolding blockOutcome andThen
 then-refuses bases reference (found divided next) rest some = absurd (omega arith)
 then-refuses bases reference (refused why) rest some = refl
 
-as-judging : (bases : ℕ) (reference input letters ends : List ℕ) → 0 < validatedBlock bases reference input .number
-    → decoded bases reference input letters ends ≡ validatedBlock bases reference input
+as-judging : (bases : ℕ) (reference input : List ℕ) (buffers : Buffers) → 0 < validatedBlock bases reference input .number
+    → decoded bases reference input buffers ≡ validatedBlock bases reference input
 unfolding decoded decodeAnswer validatedBlock
-as-judging bases reference input letters ends some =
+as-judging bases reference input buffers some =
     ap (blockOutcome reference bases) (then-refuses bases reference (blockAnswer bases reference input) _ some)
 
 -- ---- All of them
@@ -251,6 +223,7 @@ given-exactly bases reference input bytes =
       of-sizes = sizes-first bases reference input;
       of-dna = λ lengths number read. dna-refused bases reference input lengths number read bytes;
       of-left-over = λ lengths. twenty-one bases reference input lengths bytes;
+      of-names = λ lengths division. forty bases reference input lengths division bytes;
       of-decoding = as-judging bases reference input;
     }
 
@@ -260,9 +233,8 @@ given-exactly bases reference input bytes =
 two-least : (bases : ℕ) (reference input : List ℕ) → referenceSizeWrong bases reference ≡ false
     → Refuses (λ refusal. 2 ≤ refusal .number) (blockAnswer bases reference input)
 two-least bases reference input fits =
-    rw (past-reference bases reference input fits)
-    (refuses-too (OwnRefusal 2 21 (readCount (headerOf input))) (λ refusal. 2 ≤ refusal .number) (afterReference bases input)
-    (λ refusal o. o .least) (reference-own bases input))
+    refuses-too (OwnRefusal 2 21 (readCount (headerOf input))) (λ refusal. 2 ≤ refusal .number) (blockAnswer bases reference input)
+    (λ refusal o. least-own 2 (omega arith) (o .number-own)) (block-least bases reference input fits)
 
 file-refused : (bases : ℕ) (reference : List ℕ) (answer : Answer BlockRefusal (List BlockDivision)) → fileOutcome reference bases answer ≡ refusal 1 0 0
     → Refuses (AtLeast 2) answer → ⊥
@@ -281,12 +253,12 @@ pub given-first : (bases : ℕ) (reference : List ℕ) → GivenFirst bases refe
 unfolding decoded decodeAnswer andThen blockOutcome validated fileAnswer fileOutcome
 given-first bases reference =
     record {
-      decode = λ input letters ends. (
+      decode = λ input buffers. (
         λ e.
             by-test (referenceSizeWrong bases reference) (λ t. t)
             (λ t.
             let one = refuses-with (λ refusal. 2 ≤ refusal .number)
-            (refused-answer bases reference (decodeAnswer bases reference input letters ends) 1 0 (omega arith) e)
+            (refused-answer bases reference (decodeAnswer bases reference input buffers) 1 0 (omega arith) e)
             (andThen-refuses (λ refusal. 2 ≤ refusal .number) (blockAnswer bases reference input) _
             (two-least bases reference input t)
             (λ divided next found-is.

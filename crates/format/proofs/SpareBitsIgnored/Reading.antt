@@ -5,7 +5,7 @@ use mathlib.Core.Bool.{_||_}
 use mathlib.Core.List.{List, [], _∷_, map, flatten}
 use lib.ListN.{length, drop}
 use lib.Dec.{ltb}
-use Rattle.base.specs.Lists.{All}
+use Rattle.base.specs.Lists.{placesFrom, All}
 use Rattle.base.specs.Faults.{fault}
 use Rattle.base.specs.Answer.{checked, Answer, found, refused, andThen, refusedAs}
 use Rattle.base.specs.Paste.{pasted}
@@ -14,16 +14,17 @@ use Rattle.base.proofs.AnswerLaws.{absurd-found, cond-parts, andThen-same}
 use Rattle.base.proofs.ListLaws.{map-same}
 use Rattle.dna.specs.Reference.{referenceSizeWrong}
 use Rattle.dna.specs.Counts.{Counted, sumCounts}
-use Rattle.dna.specs.Division.{Read, readsOf, divisionLetters, divisionCounts}
+use Rattle.dna.specs.Division.{Read, readsOf, divisionLetters, divisionCounts, readEnds}
 use Rattle.dna.specs.Walk.{ofRead, Walk, refusedAt, sectionWalk}
 use Rattle.format.specs.Sections.{dnaNumber, nNumber, sectionOf}
 use Rattle.format.specs.Lengths.{lengthFaults}
 use Rattle.format.specs.WellFormed.{BlockDivision}
 use Rattle.format.specs.Joined.{blockReads, blockCounts, fileCounts}
 use Rattle.format.specs.Outcome.{acceptedBlock, acceptedFile, modulo64}
-use Rattle.format.specs.BlockAnswer.{lengthsAnswer, blockAnswer, blockOutcome, validatedBlock}
-use Rattle.format.specs.BlockAnswer.{capacityTooSmall, decodeAnswer, decoded, lettersAfter}
-use Rattle.format.specs.BlockAnswer.{endsAfter, decodedLetters, decodedEnds}
+use Rattle.format.specs.BlockAnswer.{lengthsAnswer, dnaAnswer, namesAnswer, blockAnswer}
+use Rattle.format.specs.BlockAnswer.{blockOutcome, validatedBlock, Buffers, buffersOf}
+use Rattle.format.specs.BlockAnswer.{capacityTooSmall, decodeAnswer, decoded, buffersAfter}
+use Rattle.format.specs.BlockAnswer.{decodedBuffers}
 use Rattle.format.specs.FileAnswer.{BlockRefusal, inFirst, inLater, blocksAnswer, fileAnswer}
 use Rattle.format.specs.FileAnswer.{fileOutcome, validated}
 use Rattle.format.specs.SpareBits.{SameBases}
@@ -59,10 +60,10 @@ module _ (bases : ℕ) (one other : List ℕ) (same : SameBases bases one other)
 
 -- ---- A block
 
-blockAnswer-inside : (bases : ℕ) (reference input : List ℕ) {divided : BlockDivision} {next : ℕ}
-    → blockAnswer bases reference input ≡ found divided next → DividedInside bases divided
-unfolding blockAnswer
-blockAnswer-inside bases reference input e =
+dnaAnswer-inside : (bases : ℕ) (reference input : List ℕ) {divided : BlockDivision} {next : ℕ}
+    → dnaAnswer bases reference input ≡ found divided next → DividedInside bases divided
+unfolding dnaAnswer
+dnaAnswer-inside bases reference input e =
     let nSection : List ℕ = sectionOf input nNumber in
     let dna : List ℕ = sectionOf input dnaNumber in
     andThen-parts (refusedAs (λ n. ofRead 0 9) (lengthsAnswer input)) _ (checked-found (ofRead 0) _ _ e .1) (λ lengths end e₁ e₂.
@@ -71,10 +72,19 @@ blockAnswer-inside bases reference input e =
     subst (λ (d : BlockDivision). DividedInside bases d) (found-same (checked-found (ofRead 0) _ _ e₄ .1) .0)
     (record { reads = walk-inside bases lengths nSection dna e₃ })))
 
+blockAnswer-inside : (bases : ℕ) (reference input : List ℕ) {divided : BlockDivision} {next : ℕ}
+    → blockAnswer bases reference input ≡ found divided next → DividedInside bases divided
+unfolding blockAnswer
+blockAnswer-inside bases reference input e =
+    andThen-parts (dnaAnswer bases reference input) _ e (λ divided next e₁ e₂.
+    andThen-parts (refusedAs (λ n. ofRead 0 40) (namesAnswer input)) _ e₂ (λ names end e₃ e₄.
+    subst (λ (d : BlockDivision). DividedInside bases d) (found-same e₄ .0)
+    (record { reads = dnaAnswer-inside bases reference input e₁ .reads })))
+
 module _ (bases : ℕ) (one other : List ℕ) (sizes : length one ≡ length other)
     (same : SameBases bases one other) where
   blockAnswer-same : (input : List ℕ) → blockAnswer bases one input ≡ blockAnswer bases other input
-  unfolding blockAnswer
+  unfolding blockAnswer dnaAnswer
   blockAnswer-same input = rw (sizeWrong-same bases one other sizes) refl
 
   blockOutcome-same : (answer : Walk BlockDivision)
@@ -93,22 +103,26 @@ module _ (bases : ℕ) (one other : List ℕ) (sizes : length one ≡ length oth
 
   -- ---- Decoding
 
-  decodeAnswer-inside : (input letters ends : List ℕ) {divided : BlockDivision} {next : ℕ}
-      → decodeAnswer bases other input letters ends ≡ found divided next → DividedInside bases divided
+  decodeAnswer-inside : (input : List ℕ) (buffers : Buffers) {divided : BlockDivision} {next : ℕ}
+      → decodeAnswer bases other input buffers ≡ found divided next → DividedInside bases divided
   unfolding decodeAnswer
-  decodeAnswer-inside input letters ends e =
+  decodeAnswer-inside input buffers e =
       andThen-parts (blockAnswer bases other input) _ e (λ divided next e₁ e₂.
       subst (λ (d : BlockDivision). DividedInside bases d) (found-same (checked-found (ofRead 0) _ _ e₂ .1) .0)
       (blockAnswer-inside bases other input e₁))
 
-  decodeAnswer-same : (input letters ends : List ℕ)
-      → decodeAnswer bases one input letters ends ≡ decodeAnswer bases other input letters ends
+  decodeAnswer-same : (input : List ℕ) (buffers : Buffers)
+      → decodeAnswer bases one input buffers ≡ decodeAnswer bases other input buffers
   unfolding decodeAnswer capacityTooSmall
-  decodeAnswer-same input letters ends =
+  decodeAnswer-same input buffers =
       let room : (reads : List (List ℕ)) (divided : BlockDivision) (next : ℕ) → Walk BlockDivision =
       λ reads divided next.
       checked (refusedAt 0)
-      (fault 22 (ltb (length letters) (length (flatten reads)) || ltb (length ends) (length (divided .lengths))) ∷ [])
+      (fault 22
+      (ltb (length (buffers .letters)) (length (flatten reads))
+      || (ltb (length (buffers .ends)) (length (divided .lengths))
+      || (ltb (length (buffers .names)) (length (flatten (divided .names)))
+      || ltb (length (buffers .nameEnds)) (length (divided .names))))) ∷ [])
       (found divided next) in
       ap (λ (answer : Walk BlockDivision). andThen answer (λ divided next. room (blockReads one bases divided) divided next))
       (blockAnswer-same input)
@@ -116,35 +130,32 @@ module _ (bases : ℕ) (one other : List ℕ) (sizes : length one ≡ length oth
       ap (λ (reads : List (List ℕ)). room reads divided next)
       (blockReads-same bases one other same divided (blockAnswer-inside bases other input e)))
 
-  pub decoded-same : (input letters ends : List ℕ)
-      → decoded bases one input letters ends ≡ decoded bases other input letters ends
+  pub decoded-same : (input : List ℕ) (buffers : Buffers)
+      → decoded bases one input buffers ≡ decoded bases other input buffers
   unfolding decoded
-  decoded-same input letters ends =
-      ap (blockOutcome one bases) (decodeAnswer-same input letters ends)
-      ∙ blockOutcome-same (decodeAnswer bases other input letters ends) (λ divided next e. decodeAnswer-inside input letters ends e)
+  decoded-same input buffers =
+      ap (blockOutcome one bases) (decodeAnswer-same input buffers)
+      ∙ blockOutcome-same (decodeAnswer bases other input buffers) (λ divided next e. decodeAnswer-inside input buffers e)
 
-  lettersAfter-same : (letters : List ℕ) (answer : Walk BlockDivision)
+  buffersAfter-same : (buffers : Buffers) (answer : Walk BlockDivision)
       → ((divided : BlockDivision) (next : ℕ) → answer ≡ found divided next → DividedInside bases divided)
-      → lettersAfter one bases answer letters ≡ lettersAfter other bases answer letters
-  unfolding lettersAfter
-  lettersAfter-same letters (found divided next) inside =
-      ap (λ (reads : List (List ℕ)). pasted letters 0 (flatten reads))
+      → buffersAfter one bases answer buffers ≡ buffersAfter other bases answer buffers
+  unfolding buffersAfter
+  buffersAfter-same buffers (found divided next) inside =
+      ap (λ (reads : List (List ℕ)).
+      buffersOf (pasted (buffers .letters) 0 (flatten reads)) (pasted (buffers .ends) 0 (readEnds (divided .lengths)))
+      (pasted (buffers .names) 0 (flatten (divided .names)))
+      (pasted (buffers .nameEnds) 0 (placesFrom 0 (map length (divided .names)))))
       (blockReads-same bases one other same divided (inside divided next refl))
-  lettersAfter-same letters (refused why) inside = refl
+  buffersAfter-same buffers (refused why) inside = refl
 
-  pub decodedLetters-same : (input letters ends : List ℕ)
-      → decodedLetters bases one input letters ends ≡ decodedLetters bases other input letters ends
-  unfolding decodedLetters
-  decodedLetters-same input letters ends =
-      ap (λ (answer : Walk BlockDivision). lettersAfter one bases answer letters) (decodeAnswer-same input letters ends)
-      ∙ lettersAfter-same letters (decodeAnswer bases other input letters ends)
-      (λ divided next e. decodeAnswer-inside input letters ends e)
-
-  pub decodedEnds-same : (input letters ends : List ℕ)
-      → decodedEnds bases one input letters ends ≡ decodedEnds bases other input letters ends
-  unfolding decodedEnds
-  decodedEnds-same input letters ends =
-      ap (λ (answer : Walk BlockDivision). endsAfter answer ends) (decodeAnswer-same input letters ends)
+  pub decodedBuffers-same : (input : List ℕ) (buffers : Buffers)
+      → decodedBuffers bases one input buffers ≡ decodedBuffers bases other input buffers
+  unfolding decodedBuffers
+  decodedBuffers-same input buffers =
+      ap (λ (answer : Walk BlockDivision). buffersAfter one bases answer buffers) (decodeAnswer-same input buffers)
+      ∙ buffersAfter-same buffers (decodeAnswer bases other input buffers)
+      (λ divided next e. decodeAnswer-inside input buffers e)
 
   -- ---- A file
 

@@ -24,6 +24,7 @@ use Rattle.format.specs.RuleRecord.{Candidate, alignedCount, expectedAt,
 use Rattle.format.specs.RuleRecord.{candidateEntries, placeUsed, alignedFields, choiceFor}
 use Rattle.format.specs.RuleRecord.{nOffsetsOf, storedPosition, stepFits, isPerfect}
 use Rattle.format.specs.RuleRecord.{contextFor, Written, writtenAs, written}
+use Rattle.tokens.specs.WrittenNames.{writtenNames, namesLent}
 use Rattle.format.specs.RuleBlock.{writtenFrom, writtenGroup, writtenDivision, ruleBlock}
 use Rattle.format.specs.RuleBlock.{writtenBlock}
 use Rattle.format.specs.EncodeAnswer.{EncodeInput, readsOfInput, candidatesOf, blockOf}
@@ -159,7 +160,8 @@ module _ (bases : ℕ) (one other : List ℕ) (same : SameBases bases one other)
   blockOf-same input =
       ap
       (λ (records : List Written).
-      writtenBlock (input .id) (input .time) (map length (readsOfInput input)) (map writtenGroup (inGroups records)))
+      writtenBlock (input .id) (input .time) (map length (readsOfInput input))
+      (writtenNames (namesLent (input .names) (input .nameEnds))) (map writtenGroup (inGroups records)))
       (writtenFrom-same 0 (readsOfInput input) (candidatesOf input))
 
 -- ---- Encoding

@@ -1,5 +1,5 @@
 -- The writer accepts exactly the reads within the limits for which there is room. Assumes nothing.
-use mathlib.Core.Path.{_≡_, refl, sym, ap, ap₂, _∙_}
+use mathlib.Core.Path.{_≡_, refl, sym, ap, ap₂, _∙_, subst}
 use Prim.Native.Nat.{ℕ, _+_, _≤_, _<_}
 use native.Mathlib.Omega.{arith}
 use mathlib.Core.Bool.{Bool, true, false, cond, not}
@@ -19,11 +19,14 @@ use Rattle.base.proofs.Tests.{or-neither, neither-or, not-false, true-not, any-
 use Rattle.dna.specs.Reference.{alphabet, referenceSizeWrong, ReferenceFits}
 use Rattle.dna.specs.Sizes.{lengthInvalid}
 use Rattle.dna.specs.Counts.{zeroCounts}
+use Rattle.tokens.specs.WrittenNames.{namesLent, namesRefused}
+use Rattle.tokens.specs.LentNames.{LentNames}
+use Rattle.tokens.proofs.NamesLent.{names-lent, lent-names}
 use Rattle.format.specs.Outcome.{refusal, acceptedBlock}
 use Rattle.format.specs.EncodeAnswer.{EncodeInput, blockOf, readCountTooLarge}
 use Rattle.format.specs.EncodeAnswer.{candidateCountWrong, readEndsInvalid, letterInvalid}
-use Rattle.format.specs.EncodeAnswer.{blockCapacityTooSmall, encodeFaults, encodeNumber}
-use Rattle.format.specs.EncodeAnswer.{encoded}
+use Rattle.format.specs.EncodeAnswer.{namesWrong, blockCapacityTooSmall, encodeFaults}
+use Rattle.format.specs.EncodeAnswer.{encodeNumber, encoded}
 use Rattle.format.specs.Demands.{Writable}
 use Rattle.format.proofs.WritesBlocks.Inputs.{places-of-steps, all-valid, ends-count}
 
@@ -31,7 +34,7 @@ use Rattle.format.proofs.WritesBlocks.Inputs.{places-of-steps, all-vali
 
 numbered : (bases : ℕ) (reference : List ℕ) (input : EncodeInput) (room : ℕ) → All (λ f. 0 < f .number) (encodeFaults bases reference input room)
 unfolding encodeFaults
-numbered bases reference input room = (omega arith, (omega arith, (omega arith, (omega arith, (omega arith, (omega arith, tt))))))
+numbered bases reference input room = (omega arith, (omega arith, (omega arith, (omega arith, (omega arith, (omega arith, (omega arith, tt)))))))
 
 none-zero : (bases : ℕ) (reference : List ℕ) (input : EncodeInput) (out : List ℕ) → NoneFits (encodeFaults bases reference input (length out))
     → encodeNumber bases reference input out ≡ 0
@@ -71,12 +74,12 @@ letters-valid (read ∷ reads) h =
     ] in
     any-append (λ letter. not (member letter alphabet)) read (flatten reads) ∙ neither-or _ _ (one read (h .0)) (letters-valid reads (h .1))
 
-writable-none : (bases : ℕ) (reference : List ℕ) (reads : List (List ℕ)) (input : EncodeInput) (out : List ℕ) → ReferenceFits bases reference
-    → Writable reads input → length (blockOf bases reference input) ≤ length out → NoneFits (encodeFaults bases reference input (length out))
-unfolding encodeFaults any readCountTooLarge candidateCountWrong readEndsInvalid letterInvalid blockCapacityTooSmall
-writable-none bases reference reads input out fits w room =
+writable-none : (bases : ℕ) (reference : List ℕ) (reads names : List (List ℕ)) (input : EncodeInput) (out : List ℕ) → ReferenceFits bases reference
+    → Writable reads names input → length (blockOf bases reference input) ≤ length out → NoneFits (encodeFaults bases reference input (length out))
+unfolding encodeFaults any readCountTooLarge candidateCountWrong readEndsInvalid letterInvalid namesWrong blockCapacityTooSmall
+writable-none bases reference reads names input out fits w room =
     let lengths : List ℕ = map length reads in
-    let count : length (input .ends) ≡ length reads = ends-count reads input w in
+    let count : length (input .ends) ≡ length reads = ends-count reads names input w in
     let same : (list : List ℕ) → length list ≡ length reads → not (eqb (length list) (length (input .ends))) ≡ false
     = λ list e. true-not _ (eq-eqb (length list) (length (input .ends)) (e ∙ sym count)) in
     let steps : stepsFrom 0 (input .ends) ≡ lengths = ap (stepsFrom 0) (w .ends-are) ∙ steps-of-places 0 lengths in
@@ -93,13 +96,16 @@ writable-none bases reference reads input out fits w room =
     (neither-or _ _
     (neither-or _ _ (ap (any lengthInvalid) steps ∙ all-valid reads (w .lengths)) (true-not _ (eq-eqb _ _ last)))
     (neither-or _ _ (ap (any (λ letter. not (member letter alphabet))) (w .letters-are) ∙ letters-valid reads (w .letters))
-    (neither-or _ _ (le-ltb (length out) (length (blockOf bases reference input)) room) refl)))))
+    (neither-or _ _
+    (ap (λ (n : ℕ). namesRefused n (input .names) (input .nameEnds)) count
+    ∙ names-lent (length reads) (input .names) (input .nameEnds) names (w .named) .0)
+    (neither-or _ _ (le-ltb (length out) (length (blockOf bases reference input)) room) refl))))))
 
 -- Reads within the limits earn no fault but for room.
-pub writable-zero : (bases : ℕ) (reference : List ℕ) (reads : List (List ℕ)) (input : EncodeInput) (out : List ℕ) → ReferenceFits bases reference
-    → Writable reads input → length (blockOf bases reference input) ≤ length out → encodeNumber bases reference input out ≡ 0
-writable-zero bases reference reads input out fits w room =
-    none-zero bases reference input out (writable-none bases reference reads input out fits w room)
+pub writable-zero : (bases : ℕ) (reference : List ℕ) (reads names : List (List ℕ)) (input : EncodeInput) (out : List ℕ) → ReferenceFits bases reference
+    → Writable reads names input → length (blockOf bases reference input) ≤ length out → encodeNumber bases reference input out ≡ 0
+writable-zero bases reference reads names input out fits w room =
+    none-zero bases reference input out (writable-none bases reference reads names input out fits w room)
 
 -- ---- The reads of an accepted input
 
@@ -143,8 +149,8 @@ valid-letters (read ∷ reads) h =
 
 -- An accepted input is reads within the limits, and there is room.
 pub zero-writable : (bases : ℕ) (reference : List ℕ) (input : EncodeInput) (out : List ℕ) → encoded bases reference input out .number ≡ 0
-    → (reads : List (List ℕ)) × Writable reads input × (length (blockOf bases reference input) ≤ length out)
-unfolding encodeFaults any readCountTooLarge candidateCountWrong readEndsInvalid letterInvalid blockCapacityTooSmall
+    → (reads : List (List ℕ)) × (names : List (List ℕ)) × Writable reads names input × (length (blockOf bases reference input) ≤ length out)
+unfolding encodeFaults any readCountTooLarge candidateCountWrong readEndsInvalid letterInvalid namesWrong blockCapacityTooSmall
 zero-writable bases reference input out e =
     let none : NoneFits (encodeFaults bases reference input (length out))
     = zero-none bases reference input out (encoded-zero bases reference input out e) in
@@ -153,7 +159,8 @@ zero-writable bases reference input out e =
     let f₃₁ = or-neither (candidateCountWrong input) _ (f₃₀ .1) in
     let f₃₂ = or-neither (readEndsInvalid input) _ (f₃₁ .1) in
     let f₃₃ = or-neither (letterInvalid input) _ (f₃₂ .1) in
-    let f₃₄ = or-neither (blockCapacityTooSmall bases reference input (length out)) _ (f₃₃ .1) in
+    let f₄₁ = or-neither (namesWrong input) _ (f₃₃ .1) in
+    let f₃₄ = or-neither (blockCapacityTooSmall bases reference input (length out)) _ (f₄₁ .1) in
     let lengths : List ℕ = stepsFrom 0 (input .ends) in
     let ends : (any lengthInvalid lengths ≡ false) × (not (eqb (getD (0 ∷ input .ends) (length (input .ends)) 0) (length (input .letters))) ≡ false)
     = or-neither _ _ (f₃₂ .0) in
@@ -172,12 +179,16 @@ zero-writable bases reference input out e =
     let same : (list : List ℕ) → not (eqb (length list) (length (input .ends))) ≡ false → length list ≡ length reads
     = λ list h. eqb-true _ _ (not-false _ h) ∙ sym many in (
       reads,
+      namesLent (input .names) (input .nameEnds),
       record {
         few = omega (arith, ltb-false 50000 (length (input .ends)) (f₃₀ .0));
         lengths = valid-all reads (ap (any lengthInvalid) sizes ∙ ends .0);
         letters = valid-letters reads (ap (any (λ letter. not (member letter alphabet))) whole ∙ f₃₃ .0);
         letters-are = sym whole;
         ends-are = sym (ap (placesFrom 0) sizes ∙ back);
+        named =
+            subst (λ (n : ℕ). LentNames n (input .names) (input .nameEnds) (namesLent (input .names) (input .nameEnds))) (sym many)
+            (lent-names (length (input .ends)) (input .names) (input .nameEnds) (f₄₁ .0));
         positions = same (input .positions) (c₁ .0);
         strands = same (input .strands) (c₂ .0);
         lefts = same (input .lefts) (c₃ .0);

@@ -16,6 +16,7 @@ use Rattle.base.proofs.StepsLaws.{length-places, last-place}
 use Rattle.base.proofs.Tests.{absurd-test, or-neither, neither-or}
 use Rattle.dna.specs.Reference.{alphabet, letterOfCode}
 use Rattle.dna.specs.Sizes.{lengthInvalid}
+use Rattle.tokens.proofs.OneCount.{count-one}
 use Rattle.format.specs.RuleBlock.{codeOfLetter}
 use Rattle.format.specs.EncodeAnswer.{EncodeInput, readsOfInput, candidatesOf}
 use Rattle.format.specs.Demands.{LentFits, Writable, codesOf}
@@ -102,16 +103,16 @@ cut-reads before (read ∷ reads) start e =
 
 -- ---- From reads to what the writer takes
 
-pub ends-count : (reads : List (List ℕ)) (input : EncodeInput) → Writable reads input → length (input .ends) ≡ length reads
-ends-count reads input w = ap length (w .ends-are) ∙ length-places 0 (map length reads) ∙ length-map reads length
+pub ends-count : (reads names : List (List ℕ)) (input : EncodeInput) → Writable reads names input → length (input .ends) ≡ length reads
+ends-count reads names input w = ap length (w .ends-are) ∙ length-places 0 (map length reads) ∙ length-map reads length
 
 -- The reads of the input are those that were lent.
-pub reads-of-input : (reads : List (List ℕ)) (input : EncodeInput) → Writable reads input → readsOfInput input ≡ codesOf reads
+pub reads-of-input : (reads names : List (List ℕ)) (input : EncodeInput) → Writable reads names input → readsOfInput input ≡ codesOf reads
 unfolding readsOfInput cut
-reads-of-input reads input w =
+reads-of-input reads names input w =
     sym (map-build (map codeOfLetter) (length (input .ends)) (cut (input .letters) 0 (input .ends)))
     ∙ ap (map (map codeOfLetter))
-    (ap (λ (n : ℕ). build n (cut (input .letters) 0 (input .ends))) (ends-count reads input w)
+    (ap (λ (n : ℕ). build n (cut (input .letters) 0 (input .ends))) (ends-count reads names input w)
     ∙ ap₂ (λ (letters ends : List ℕ). build (length reads) (cut letters 0 ends)) (w .letters-are) (w .ends-are)
     ∙ cut-reads [] reads 0 refl)
 
@@ -120,8 +121,8 @@ unfolding any
 all-valid [] h = refl
 all-valid (read ∷ reads) h = neither-or _ _ (h .0) (all-valid reads (h .1))
 
-total-small : (reads : List (List ℕ)) (input : EncodeInput) → LentFits input → Writable reads input → total (map length reads) < 2 ^ 32
-total-small reads input lent w =
+total-small : (reads names : List (List ℕ)) (input : EncodeInput) → LentFits input → Writable reads names input → total (map length reads) < 2 ^ 32
+total-small reads names input lent w =
     let lengths : List ℕ = map length reads in
     let last : getD (0 ∷ placesFrom 0 lengths) (length lengths) 0 ≡ 0 + total lengths = last-place 0 lengths in
     let small : (k : ℕ) → getD (placesFrom 0 lengths) k 0 < 2 ^ 32
@@ -144,19 +145,22 @@ unfolding candidatesOf
 candidates-count input = length-build (length (input .ends)) _
 
 -- What is lent fits the rule.
-pub rule-fits : (reads : List (List ℕ)) (input : EncodeInput) → LentFits input → Writable reads input
-    → RuleFits (input .id) (input .time) (codesOf reads) (candidatesOf input)
-rule-fits reads input lent w =
+pub rule-fits : (reads names : List (List ℕ)) (input : EncodeInput) → LentFits input → Writable reads names input
+    → RuleFits (input .id) (input .time) (codesOf reads) names (candidatesOf input)
+rule-fits reads names input lent w =
     let many : length (codesOf reads) ≡ length reads = length-map reads (map codeOfLetter) in
     record {
       reads-fit = record {
         few = omega (arith, w .few);
         valid = ap (any lengthInvalid) (codes-lengths reads) ∙ all-valid reads (w .lengths);
         below = reads-below reads (w .letters);
-        counted = candidates-count input ∙ ends-count reads input w ∙ sym many;
+        counted = candidates-count input ∙ ends-count reads names input w ∙ sym many;
         fits = candidates-fit input lent;
-        small = subst (λ (l : List ℕ). total l < 2 ^ 32) (sym (codes-lengths reads)) (total-small reads input lent w);
+        small = subst (λ (l : List ℕ). total l < 2 ^ 32) (sym (codes-lengths reads)) (total-small reads names input lent w);
       };
+      named = w .named .counted ∙ sym many;
+      names-fit = w .named .fit;
+      one-count = count-one names (w .named .one-count);
       id-fits = lent .id;
       time-fits = lent .time;
     }

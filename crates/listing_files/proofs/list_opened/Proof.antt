@@ -21,6 +21,12 @@ letter-room-requires c κs = search needs
 end-room-requires : tie.Need-end-room-requires
 end-room-requires c κs = search needs
 
+name-room-requires : tie.Need-name-room-requires
+name-room-requires c κs = search needs
+
+name-end-room-requires : tie.Need-name-end-room-requires
+name-end-room-requires c κs = search needs
+
 text-room-requires : tie.Need-text-room-requires
 text-room-requires c κs = search needs
 
@@ -66,15 +72,15 @@ returns-2 c = search needs
 
 u64-at-requires : tie.Need-u64-at-requires
 u64-at-requires c κs =
-    omega (arith, reference-long (c .before .before .before .before .before .before .before .before .before .before .before .before .before .before .args .reference .now) (sym (c .before .reference-refused .ensures) ∙ c .if1 .left))
+    omega (arith, reference-long (c .before .before .before .before .before .before .before .before .before .before .before .before .before .before .before .before .args .reference .now) (sym (c .before .reference-refused .ensures) ∙ c .if1 .left))
 
 sub-list-blocks : tie.Need-sub-list-blocks
 sub-list-blocks c =
-    omega (arith, reference-long (c .before .before .before .before .before .before .before .before .before .before .before .before .before .before .before .args .reference .now) (sym (c .before .before .reference-refused .ensures) ∙ c .before .if1 .left))
+    omega (arith, reference-long (c .before .before .before .before .before .before .before .before .before .before .before .before .before .before .before .before .before .args .reference .now) (sym (c .before .before .reference-refused .ensures) ∙ c .before .if1 .left))
 
 part-list-blocks-start : tie.Need-part-list-blocks-start
 part-list-blocks-start c =
-    omega (arith, reference-long (c .before .before .before .before .before .before .before .before .before .before .before .before .before .before .before .args .reference .now) (sym (c .before .before .reference-refused .ensures) ∙ c .before .if1 .left))
+    omega (arith, reference-long (c .before .before .before .before .before .before .before .before .before .before .before .before .before .before .before .before .before .args .reference .now) (sym (c .before .before .reference-refused .ensures) ∙ c .before .if1 .left))
 
 part-list-blocks-end : tie.Need-part-list-blocks-end
 part-list-blocks-end c = search needs
@@ -91,11 +97,17 @@ slice-aggregate-list-blocks-3 c = search needs
 slice-aggregate-list-blocks-4 : tie.Need-slice-aggregate-list-blocks-4
 slice-aggregate-list-blocks-4 c = search needs
 
+slice-aggregate-list-blocks-5 : tie.Need-slice-aggregate-list-blocks-5
+slice-aggregate-list-blocks-5 c = search needs
+
+slice-aggregate-list-blocks-6 : tie.Need-slice-aggregate-list-blocks-6
+slice-aggregate-list-blocks-6 c = search needs
+
 list-blocks-requires : tie.Need-list-blocks-requires
 list-blocks-requires c κs =
-    let e = c .before .before .before .before .before .before .before .before .before .filled .given in
-    let got = subst (λ (r : Filled). FilledIn r 0 (length (c .before .before .before .before .before .before .before .before .before .before .before .before .before .before .before .before .before .large-buffer .result))) (e .1) (c .before .before .before .before .before .before .before .before .before .before .before .before .fill .ensures) in
-    (omega (arith, got .1), (omega arith, (omega arith, omega arith)))
+    let e = c .before .before .before .before .before .before .before .before .before .before .before .filled .given in
+    let got = subst (λ (r : Filled). FilledIn r 0 (length (c .before .before .before .before .before .before .before .before .before .before .before .before .before .before .before .before .before .before .before .before .before .large-buffer .result))) (e .1) (c .before .before .before .before .before .before .before .before .before .before .before .before .before .before .fill .ensures) in
+    (omega (arith, got .1), (omega arith, (omega arith, (omega arith, (omega arith, omega arith)))))
 
 returns-3 : tie.Need-returns-3
 returns-3 c = search needs
@@ -107,6 +119,8 @@ list-opened-spec =
     large-buffer-requires
     letter-room-requires
     end-room-requires
+    name-room-requires
+    name-end-room-requires
     text-room-requires
     slice-aggregate-fill
     fill-requires
@@ -129,5 +143,7 @@ list-opened-spec =
     slice-aggregate-list-blocks-2
     slice-aggregate-list-blocks-3
     slice-aggregate-list-blocks-4
+    slice-aggregate-list-blocks-5
+    slice-aggregate-list-blocks-6
     list-blocks-requires
     returns-3)

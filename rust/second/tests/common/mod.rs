@@ -2,15 +2,17 @@
 //! corpus by their labels.
 #![allow(dead_code)]
 
-use second::corpus::{Case, FILL};
+use second::corpus::{Case, Lent, FILL};
 use second::corpus_cases::corpus;
+use second::generator::ReferencePlan;
+use second::proposals::EncodeCall;
 use second::*;
 
 /// ACGTACGTTGCA, the reference of 01's sums.
 pub const BASES: u64 = 12;
 pub const REFERENCE: [u8; 3] = [0x1B, 0x1B, 0xE4];
 
-/// A block by hand: a 121-byte header and the three sections that are read.
+/// A block by hand: a 121-byte header and the four sections that are read.
 #[derive(Clone)]
 pub struct Hand {
     pub flags: u32,
@@ -18,6 +20,7 @@ pub struct Hand {
     pub n_reads: i32,
     pub raw_dna: u32,
     pub dna: Vec<u8>,
+    pub names: Vec<u8>,
     pub sizes: Vec<u8>,
     pub n: Vec<u8>,
 }
@@ -31,6 +34,7 @@ impl Hand {
             n_reads: reads,
             raw_dna: (length * reads) as u32,
             dna: dna.to_vec(),
+            names: Vec::new(),
             sizes: Vec::new(),
             n: n.to_vec(),
         }
@@ -43,17 +47,19 @@ impl Hand {
             n_reads: reads,
             raw_dna,
             dna: Vec::new(),
+            names: Vec::new(),
             sizes: sizes.to_vec(),
             n: vec![0; (reads as usize + 7) / 8],
         }
     }
 
     pub fn bytes(&self) -> Vec<u8> {
-        let mut block = vec![0; 121];
+        let mut block = [0; 121];
         let mut put = |at: usize, bytes: &[u8]| block[at..at + bytes.len()].copy_from_slice(bytes);
         put(0, &[0x49, 0x7C]);
         put(2, &121u32.to_le_bytes());
         put(6, &(self.dna.len() as u32).to_le_bytes());
+        put(10, &(self.names.len() as u32).to_le_bytes());
         put(22, &(self.sizes.len() as u32).to_le_bytes());
         put(26, &(self.n.len() as u32).to_le_bytes());
         put(42, &self.flags.to_le_bytes());
@@ -62,16 +68,22 @@ impl Hand {
         put(54, &20505u16.to_le_bytes());
         put(56, &7u64.to_le_bytes());
         put(73, &self.raw_dna.to_le_bytes());
-        [block, self.dna.clone(), self.sizes.clone(), self.n.clone()].concat()
+        [&block[..], &self.dna, &self.names, &self.sizes, &self.n].concat()
     }
+}
+
+/// A call of the encoder under 01's reference, without reads, b_id 0, c_time 0.
+pub fn sums_call() -> EncodeCall {
+    let letters = b"ACGTACGTTGCA".to_vec();
+    let reference = ReferencePlan { bases: BASES, letters, bytes: REFERENCE.to_vec() };
+    EncodeCall::new(&reference, &[], 0, 0)
 }
 
 /// A block's letters as text, with its outcome, under 01's reference.
 pub fn read(block: &[u8]) -> (Outcome, String) {
-    let mut letters = vec![b'.'; 64];
-    let mut ends = vec![0; 64];
-    let outcome = decode(BASES, &REFERENCE, block, &mut letters, &mut ends);
-    let text = letters[..outcome.letters as usize].to_vec();
+    let mut lent = Lent::new(64, 64, 0, 0);
+    let outcome = lent.decode(BASES, &REFERENCE, block);
+    let text = lent.letters[..outcome.letters as usize].to_vec();
     (outcome, String::from_utf8(text).unwrap())
 }
 
@@ -104,19 +116,31 @@ impl Cases {
 /// Runs a decode case with the buffers that it lends: the outcome, and the
 /// reads as text. What lies past them, all of it on a refusal, must stay.
 pub fn run_decode(case: &Case) -> (Outcome, Vec<String>) {
-    let mut letters = vec![FILL; case.letters_lent as usize];
-    let mut ends = vec![u32::from_le_bytes([FILL; 4]); case.ends_lent as usize];
-    let call = &case.call;
-    let outcome = decode(call.bases, &call.reference, &case.input, &mut letters, &mut ends);
-    let (written, rest) = letters.split_at(outcome.letters as usize);
-    let (read_ends, ends_rest) = ends.split_at(outcome.reads as usize);
-    assert!(rest.iter().all(|&letter| letter == FILL), "{}", case.label);
-    assert!(ends_rest.iter().all(|end| end.to_le_bytes() == [FILL; 4]), "{}", case.label);
-    let starts = [0].iter().chain(read_ends);
+    let (outcome, reads, _) = run_named(case);
+    (outcome, reads)
+}
+
+/// The same with the names; none where they stay unread.
+pub fn run_named(case: &Case) -> (Outcome, Vec<String>, Vec<String>) {
+    let mut lent = case.lent();
+    let outcome = lent.decode(case.call.bases, &case.call.reference, &case.input);
+    let stored = outcome.number == 0 && case.input[42] & 8 != 0;
+    let names = if stored { outcome.reads } else { 0 };
+    let reads = parts(&lent.letters, &lent.ends, outcome.reads, &case.label);
+    assert_eq!(reads.concat().len() as u64, outcome.letters, "{}", case.label);
+    (outcome, reads, parts(&lent.names, &lent.name_ends, names, &case.label))
+}
+
+/// So many parts of a buffer by their ends. All else is as it was lent.
+fn parts(bytes: &[u8], ends: &[u32], count: u64, label: &str) -> Vec<String> {
+    let (ends, rest) = ends.split_at(count as usize);
+    assert!(rest.iter().all(|end| end.to_le_bytes() == [FILL; 4]), "{label}");
+    let written = ends.last().copied().unwrap_or(0);
+    assert!(bytes[written as usize..].iter().all(|&byte| byte == FILL), "{label}");
     let text = |(&start, &end): (&u32, &u32)| {
-        String::from_utf8(written[start as usize..end as usize].to_vec()).unwrap()
+        String::from_utf8(bytes[start as usize..end as usize].to_vec()).unwrap()
     };
-    (outcome, starts.zip(read_ends).map(text).collect())
+    [0].iter().chain(ends).zip(ends).map(text).collect()
 }
 
 /// A refusal: "every count in a refusal is 0".

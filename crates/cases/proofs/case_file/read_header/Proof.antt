@@ -1,4 +1,5 @@
 -- `cases::case_file::read_header` meets its contract, field by field. Assumes nothing.
+use native.Mathlib.Omega.{arith}
 use lib.ListN.{getD}
 use Rattle.cases.specs.CaseFile.{caseFields}
 use borrow.Author.Needs.{needs}
@@ -59,10 +60,35 @@ u32-at-requires-12 c κs = search needs
 u32-at-requires-13 : tie.Need-u32-at-requires-13
 u32-at-requires-13 c κs = search needs
 
+u32-at-requires-14 : tie.Need-u32-at-requires-14
+u32-at-requires-14 c κs = search needs
+
+u32-at-requires-15 : tie.Need-u32-at-requires-15
+u32-at-requires-15 c κs = search needs
+
+u32-at-requires-16 : tie.Need-u32-at-requires-16
+u32-at-requires-16 c κs = search needs
+
+u32-at-requires-17 : tie.Need-u32-at-requires-17
+u32-at-requires-17 c κs =
+    let at11 = c .before .before .before .before .before in
+    let at6 = at11 .before .before .before .before .before in
+    let at = at6 .before .before .before .before .before in
+    omega (arith, at .before .before .before .before .before .before .before .pre)
+
+u32-at-requires-18 : tie.Need-u32-at-requires-18
+u32-at-requires-18 c κs =
+    let at12 = c .before .before .before .before .before in
+    let at7 = at12 .before .before .before .before .before in
+    let at = at7 .before .before .before .before .before .before in
+    omega (arith, at .before .before .before .before .before .before .before .pre)
+
 returns : tie.Need-returns
 unfolding caseFields
 returns c =
-    let at10 = c .before .before .before in
+    let at15 = c .before .before .before in
+    let at13 = at15 .before .before in
+    let at10 = at13 .before .before .before in
     let at7 = at10 .before .before .before in
     let at4 = at7 .before .before .before in
     let at = at4 .before .before .before in
@@ -85,9 +111,14 @@ returns c =
       strands = at10 .before .before .u32-at8 .ensures i;
       lefts = at10 .before .u32-at9 .ensures i;
       rights = at10 .u32-at10 .ensures i;
-      «letters_lent» = c .before .before .u32-at11 .ensures i;
-      «ends_lent» = c .before .u32-at12 .ensures i;
-      «block_lent» = c .u32-at13 .ensures i;
+      «letters_lent» = at13 .before .before .u32-at11 .ensures i;
+      «ends_lent» = at13 .before .u32-at12 .ensures i;
+      «block_lent» = at13 .u32-at13 .ensures i;
+      names = at15 .before .u32-at14 .ensures i;
+      «name_ends» = at15 .u32-at15 .ensures i;
+      «names_stored» = c .before .before .u32-at16 .ensures i;
+      «names_lent» = c .before .u32-at17 .ensures i;
+      «name_ends_lent» = c .u32-at18 .ensures i;
     }
 
 pub read-header-spec : {M : Type 1} → statement M
@@ -112,4 +143,9 @@ read-header-spec =
     u32-at-requires-11
     u32-at-requires-12
     u32-at-requires-13
+    u32-at-requires-14
+    u32-at-requires-15
+    u32-at-requires-16
+    u32-at-requires-17
+    u32-at-requires-18
     returns)

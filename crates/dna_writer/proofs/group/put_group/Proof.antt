@@ -11,7 +11,8 @@ use borrow.Author.Needs.{needs}
 use Rattle.base.specs.Paste.{pasted}
 use Rattle.base.proofs.PastingLaws.{Pasting, pasting-start}
 use Rattle.format.specs.RuleRecord.{Written}
-use Rattle.format.specs.EncodeAnswer.{EncodeInput, lent}
+use Rattle.format.specs.EncodeAnswer.{EncodeInput}
+use Rattle.dna_writer.specs.Lent.{lentReads}
 use Rattle.dna_writer.specs.Writer.{recordsFrom}
 use Rattle.dna_writer.proofs.LentLaws.{WellLent, well-lent, lies-at}
 use Rattle.dna_writer.proofs.RecordSteps.{recordOf, records-next, length-records}
@@ -28,7 +29,7 @@ use Rattle.dna_writer.proofs.group.put_group.Tie as tie
 abbrev recordsOf : (bases : ℕ) (reference letters ends positions strands lefts rights : List ℕ)
     (previous i : ℕ) → List Written
 recordsOf bases reference letters ends positions strands lefts rights previous i =
-    recordsFrom bases reference (lent letters ends positions strands lefts rights 0 0) previous i
+    recordsFrom bases reference (lentReads letters ends positions strands lefts rights) previous i
 
 -- Writing the group's records from record k on makes the buffer what it is to be.
 abbrev RecordsLeft : (records : List Written) (old : List ℕ) (at : ℕ) (out : List ℕ) (place k : ℕ)
@@ -62,8 +63,8 @@ abbrev μ-loop : tie.MeasureT-loop
 abbrev input : (c : tie.Start Inv-loop μ-loop) → EncodeInput
 input c =
     let a = c .args in
-    lent (a .letters .now) (a .ends .now) (a .positions .now) (a .strands .now) (a .lefts .now)
-    (a .rights .now) 0 0
+    lentReads (a .letters .now) (a .ends .now) (a .positions .now) (a .strands .now) (a .lefts .now)
+    (a .rights .now)
 
 well : (c : tie.Start Inv-loop μ-loop)
     → WellLent (c .args .bases) (c .args .reference .now) (input c)

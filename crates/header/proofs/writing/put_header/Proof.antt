@@ -30,7 +30,7 @@ returns c =
     let a = w1 .before .before .before .args in
     let f = a .fields in
     let p0 = all-left (a .out .now) 0 121 _ (length-tableParts f) (omega arith) in
-    let p1 = part-next 42 _ _ (length-lengthBytes _ _ _) p0 (w1 .put-lengths .ensures) in
+    let p1 = part-next 42 _ _ (length-lengthBytes _ _ _ _) p0 (w1 .put-lengths .ensures) in
     let p2 = part-next 22 _ _ (length-countBytes _ _ _ _) p1 (w2 .put-counts .ensures) in
     none-left (part-next 57 _ _ (length-rawBytes _ _) p2 (w3 .put-raw-sizes .ensures))
     ∙ ap (pasted (a .out .now) 0) (written-parts f)

@@ -10,37 +10,49 @@ use lib.Seq.{length-take-le}
 use borrow.Author.Needs.{needs}
 use Rattle.base.specs.Lists.{AllBytes}
 use Rattle.base.specs.Paste.{pasted}
+use Rattle.format.specs.BlockAnswer.{Buffers, buffersOf}
 use Rattle.format.specs.Answered.{countedOf, outcomeOfBlock}
 use Rattle.lines.specs.Lines.{blockText}
 use Rattle.lines.specs.Cuts.{readsCut, EndsRise}
-use Rattle.lines.proofs.TurnLaws.{Listed, turn-accepted, turn-refused}
+use Rattle.lines.proofs.TurnLaws.{LentSizes, Listed, turn-accepted}
+use Rattle.lines.proofs.TurnLaws.{turn-refused}
 use Rattle.lines.proofs.turns.list_block.Statement.{statement}
 use Rattle.lines.proofs.turns.list_block.Tie as tie
+
+-- ---- What is lent
+
+abbrev buffers : (c : tie.Start) → Buffers
+buffers c =
+    buffersOf (c .args .letters .now) (c .args .ends .now) (c .args .names .now) (c .args .name-ends .now)
+
+sizes : (c : tie.Start) → LentSizes (buffers c)
+sizes c =
+    record { letters = c .pre .0; ends = c .pre .1 .0; names = c .pre .1 .1 .0; name-ends = c .pre .1 .1 .1 .0 }
 
 -- ---- A block that was decoded
 
 abbrev start : (c : tie.After-size64) → tie.Start
-start c = c .before .before .before .before .before .before .before .before .before .before .before .before .before .before .before .before .before
+start c = c .before .before .before .before .before .before .before .before .before .before .before .before .before .before .before .before .before .before .before .before .before .before .before .before .before
 
 abbrev decoding : (c : tie.After-size64) → tie.After-decode
-decoding c = c .before .before .before .before .before .before .before .before
+decoding c = c .before .before .before .before .before .before .before .before .before .before .before .before
 
 abbrev given : (c : tie.After-size64) → tie.After-outcome2
 given c = c .before .before
 
 listed : (c : tie.After-size64)
     → Listed (start c .args .bases) (start c .args .reference .now) (start c .args .window .now)
-    (start c .args .letters .now) (start c .args .ends .now) (start c .pre .0) (start c .pre .1 .0)
+    (buffers (start c)) (sizes (start c))
     (given c .outcome2 .given .0 .0) (countedOf (given c .outcome2 .given .0 .1 .0))
     (decoding c .decode .last .1 .1 .1 .0) (decoding c .decode .last .1 .1 .1 .1 .0)
 unfolding outcomeOfBlock
 listed c =
     let a = start c .args in
     let d = decoding c .decode in
-    let all : AllBytes (a .window .now) = record { each = λ k h. omega (arith, c .before .before .before .before .before .before .before .before .before .before .before .before .before .before .before .shared-slice-known2 .given k) } in
-    turn-accepted (a .bases) (a .reference .now) (a .window .now) (a .letters .now) (a .ends .now)
-    (start c .pre .0) (start c .pre .1 .0) all _ _ _ _
-    (ap outcomeOfBlock (sym (given c .outcome2 .given .1)) ∙ d .ensures .0) (d .ensures .1) (d .ensures .2)
+    let all : AllBytes (a .window .now) = record { each = λ k h. omega (arith, c .before .before .before .before .before .before .before .before .before .before .before .before .before .before .before .before .before .before .before .before .before .before .before .shared-slice-known2 .given k) } in
+    turn-accepted (a .bases) (a .reference .now) (a .window .now) (buffers (start c)) (sizes (start c)) all _ _ _ _
+    (ap outcomeOfBlock (sym (given c .outcome2 .given .1)) ∙ d .ensures .0) (ap (λ (b : Buffers). b .letters) (d .ensures .1))
+    (ap (λ (b : Buffers). b .ends) (d .ensures .1))
 
 -- There are as many ends as reads.
 fits : (c : tie.After-size64) → c .size64 .result ≤ length (decoding c .decode .last .1 .1 .1 .1 .0)
@@ -71,22 +83,27 @@ same-length-2 c = search needs
 same-length-3 : tie.Need-same-length-3
 same-length-3 c = search needs
 
+same-length-4 : tie.Need-same-length-4
+same-length-4 c = search needs
+
+same-length-5 : tie.Need-same-length-5
+same-length-5 c = search needs
+
 returns : tie.Need-returns
 unfolding outcomeOfBlock
 returns c =
-    let s = c .before .before .before .before .before .before .before .before .before .before .before .before .before .before .before .before .before .before .before .before in
+    let s = c .before .before .before .before .before .before .before .before .before .before .before .before .before .before .before .before .before .before .before .before .before .before .before .before .before .before .before .before in
     let a = s .args in
     let o = c .before .before .before .before .before .outcome .given in
-    let d = c .before .before .before .before .before .before .before .before .before .before .before .decode in
+    let d = c .before .before .before .before .before .before .before .before .before .before .before .before .before .before .before .decode in
     let p = c .before .before .put-refused-line in
-    let all : AllBytes (a .window .now) = record { each = λ k h. omega (arith, c .before .before .before .before .before .before .before .before .before .before .before .before .before .before .before .before .before .before .shared-slice-known2 .given k) } in
-    let t = turn-refused (a .bases) (a .reference .now) (a .window .now) (a .letters .now) (a .ends .now)
-    (s .pre .0) (s .pre .1 .0) all (o .0 .0) (o .0 .1 .0) (a .block)
+    let all : AllBytes (a .window .now) = record { each = λ k h. omega (arith, c .before .before .before .before .before .before .before .before .before .before .before .before .before .before .before .before .before .before .before .before .before .before .before .before .before .before .shared-slice-known2 .given k) } in
+    let t = turn-refused (a .bases) (a .reference .now) (a .window .now) (buffers s) (sizes s) all (o .0 .0) (o .0 .1 .0) (a .block)
     (ap outcomeOfBlock (sym (o .1)) ∙ d .ensures .0) in (
       p .ensures .0 ∙ ap (pasted (a .text .now) 0) (sym (t .0)),
       p .ensures .1 ∙ zero-add _ ∙ ap length (sym (t .0)),
       sym (t .1),
-      omega (arith, s .pre .1 .1, p .ensures .2),
+      omega (arith, s .pre .1 .1 .1 .1, p .ensures .2),
       omega arith,
     )
 
@@ -108,20 +125,26 @@ put-block-requires c κs =
     let l = listed r in (
       subst (λ (n : ℕ). EndsRise 0 (length (decoding r .decode .last .1 .1 .1 .0)) (take n (decoding r .decode .last .1 .1 .1 .1 .0)))
           (sym (r .size64 .ensures .0)) (l .rises),
-      omega (arith, start r .pre .0, start r .pre .1 .0, start r .pre .1 .1, l .letters-kept, l .ends-kept, long r, fits r),
+      omega (arith, start r .pre .0, start r .pre .1 .0, start r .pre .1 .1 .1 .1, l .letters-kept, l .ends-kept, long r, fits r),
     )
 
 size64-requires-2 : tie.Need-size64-requires-2
 size64-requires-2 c κs = search needs
 
-same-length-4 : tie.Need-same-length-4
-same-length-4 c = search needs
-
-same-length-5 : tie.Need-same-length-5
-same-length-5 c = search needs
-
 same-length-6 : tie.Need-same-length-6
 same-length-6 c = search needs
+
+same-length-7 : tie.Need-same-length-7
+same-length-7 c = search needs
+
+same-length-8 : tie.Need-same-length-8
+same-length-8 c = search needs
+
+same-length-9 : tie.Need-same-length-9
+same-length-9 c = search needs
+
+same-length-10 : tie.Need-same-length-10
+same-length-10 c = search needs
 
 returns-2 : tie.Need-returns-2
 returns-2 c =
@@ -133,7 +156,7 @@ returns-2 c =
     ap (λ (n : ℕ). readsCut 0 (decoding r .decode .last .1 .1 .1 .0) (take n (decoding r .decode .last .1 .1 .1 .1 .0))) (r .size64 .ensures .0)
     ∙ l .cuts in
     let same = ap₂ (λ (id : ℕ) (rs : List (List ℕ)). blockText id (countedOf (given r .outcome2 .given .0 .1 .0)) rs)
-    (c .before .before .before .before .before .before .before .before .before .before .before .before .before .before .before .before .before .before .block-id .ensures) reads
+    (c .before .before .before .before .before .before .before .before .before .before .before .before .before .before .before .before .before .before .before .before .before .before .before .before .block-id .ensures) reads
     ∙ sym (l .text-is (a .block)) in (
       p .ensures .0 ∙ ap (pasted (a .text .now) 0) same,
       p .ensures .1 ∙ ap length same,
@@ -153,6 +176,8 @@ list-block-spec =
     same-length
     same-length-2
     same-length-3
+    same-length-4
+    same-length-5
     returns
     enum-known-outcome-2
     size64-requires
@@ -160,7 +185,9 @@ list-block-spec =
     slice-aggregate-put-block
     put-block-requires
     size64-requires-2
-    same-length-4
-    same-length-5
     same-length-6
+    same-length-7
+    same-length-8
+    same-length-9
+    same-length-10
     returns-2)

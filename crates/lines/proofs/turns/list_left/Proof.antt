@@ -23,7 +23,7 @@ returns : tie.Need-returns
 returns c =
     let written = c .before .before in
     let known = written .before .before .before .before in
-    let start = known .before .before .before .before in
+    let start = known .before .before .before .before .before .before in
     let a = start .args in
     let line = written .put-end-line in
     let last =
@@ -31,7 +31,7 @@ returns c =
       line .ensures .0 ∙ ap (pasted (a .text .now) 0) (sym (last .0)),
       line .ensures .1 ∙ zero-add _ ∙ ap length (sym (last .0)),
       sym (last .1),
-      omega (arith, start .pre .1 .1, line .ensures .2),
+      omega (arith, start .pre .1 .1 .1 .1, line .ensures .2),
       omega arith,
     )
 
@@ -50,12 +50,18 @@ same-length-3 c = search needs
 same-length-4 : tie.Need-same-length-4
 same-length-4 c = search needs
 
+same-length-5 : tie.Need-same-length-5
+same-length-5 c = search needs
+
+same-length-6 : tie.Need-same-length-6
+same-length-6 c = search needs
+
 returns-2 : tie.Need-returns-2
 returns-2 c =
-    let listed = c .before .before .before .before .before .before in
-    let seen = listed .before .before .before .before in
+    let listed = c .before .before .before .before .before .before .before .before .before .before in
+    let seen = listed .before .before .before .before .before .before in
     let some = seen .before in
-    let start = some .before .before .before .before .before .before in
+    let start = some .before .before .before .before .before .before .before .before in
     let a = start .args in
     let block = listed .list-block in
     let window = seen .window-of in
@@ -89,4 +95,6 @@ list-left-spec =
     same-length-2
     same-length-3
     same-length-4
+    same-length-5
+    same-length-6
     returns-2)

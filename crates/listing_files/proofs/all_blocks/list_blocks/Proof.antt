@@ -14,12 +14,13 @@ use Rattle.listing_files.proofs.all_blocks.list_blocks.Statement.{state
 use Rattle.listing_files.proofs.all_blocks.list_blocks.Tie as tie
 
 abbrev Inv-loop : tie.InvT-loop
-Inv-loop fd path bases reference buffer₀ filled letters₀ ends₀ text₀ at₀ end₀ block₀ buffer letters ends text at end block =
+Inv-loop fd path bases reference buffer₀ filled letters₀ ends₀ names₀ name-ends₀ text₀ at₀ end₀ block₀ buffer letters ends names name-ends text at end block =
     (at ≤ end) × (end ≤ length buffer₀) × (length buffer ≡ length buffer₀)
-    × (length letters ≡ length letters₀) × (length ends ≡ length ends₀) × (length text ≡ length text₀)
+    × (length letters ≡ length letters₀) × (length ends ≡ length ends₀) × (length names ≡ length names₀)
+    × (length name-ends ≡ length name-ends₀) × (length text ≡ length text₀)
 
 abbrev μ-loop : tie.MeasureT-loop
-μ-loop fd path bases reference buffer₀ filled letters₀ ends₀ text₀ at₀ end₀ block₀ buffer letters ends text at end block = 18_446_744_073_709_551_615 - block
+μ-loop fd path bases reference buffer₀ filled letters₀ ends₀ names₀ name-ends₀ text₀ at₀ end₀ block₀ buffer letters ends names name-ends text at end block = 18_446_744_073_709_551_615 - block
 
 -- ---- The window
 
@@ -67,6 +68,12 @@ same-length-3 c = search needs
 same-length-4 : tie.Need-same-length-4 Inv-loop μ-loop
 same-length-4 c = search needs
 
+same-length-5 : tie.Need-same-length-5 Inv-loop μ-loop
+same-length-5 c = search needs
+
+same-length-6 : tie.Need-same-length-6 Inv-loop μ-loop
+same-length-6 c = search needs
+
 returns : tie.Need-returns Inv-loop μ-loop
 returns c = search needs
 
@@ -81,47 +88,23 @@ part-left-end c = omega (arith, got (c .before) .0, got (c .before) .1)
 
 list-next-requires : tie.Need-list-next-requires Inv-loop μ-loop
 list-next-requires c κs =
-    let s = c .before .before .before .before .before .before .before .before .before .before .before .before .before .before .before .before .before .before .before .before in
-    let l = c .before .before .before .before .before .before .before .before .before .before .before .before .before .loop in
-    (omega (arith, s .pre .1 .0, l .inv .3), (omega (arith, s .pre .1 .1 .0, l .inv .4), omega (arith, s .pre .1 .1 .1, l .inv .5)))
-
-same-length-5 : tie.Need-same-length-5 Inv-loop μ-loop
-same-length-5 c = search needs
-
-same-length-6 : tie.Need-same-length-6 Inv-loop μ-loop
-same-length-6 c = search needs
+    let s = c .before .before .before .before .before .before .before .before .before .before .before .before .before .before .before .before .before .before .before .before .before .before .before .before in
+    let l = c .before .before .before .before .before .before .before .before .before .before .before .before .before .before .before .loop in (
+      omega (arith, s .pre .1 .0, l .inv .3),
+      (
+        omega (arith, s .pre .1 .1 .0, l .inv .4),
+        (
+          omega (arith, s .pre .1 .1 .1 .0, l .inv .5),
+          (omega (arith, s .pre .1 .1 .1 .1 .0, l .inv .6), omega (arith, s .pre .1 .1 .1 .1 .1, l .inv .7)),
+        ),
+      ),
+    )
 
 same-length-7 : tie.Need-same-length-7 Inv-loop μ-loop
 same-length-7 c = search needs
 
 same-length-8 : tie.Need-same-length-8 Inv-loop μ-loop
 same-length-8 c = search needs
-
-returns-2 : tie.Need-returns-2 Inv-loop μ-loop
-returns-2 c = search needs
-
-add-at : tie.Need-add-at Inv-loop μ-loop
-add-at c =
-    let r = c .before .before .before .before .before .before .before .before .before .before .before .before .before in
-    omega (arith, got r .0, got r .1, long r, c .before .before .before .before .before .before .before .list-next .ensures)
-
-add-block : tie.Need-add-block Inv-loop μ-loop
-add-block c = search needs
-
-loop-less : tie.Need-loop-less Inv-loop μ-loop
-loop-less c = search needs
-
-loop-again : tie.Need-loop-again Inv-loop μ-loop
-loop-again c =
-    let r = c .before .before .before .before .before .before .before .before .before .before .before .before .before in
-    let l = c .before .before .before .before .before .before .before .before .before .before .before .before .before .before .before .before .before .before .before .before .before .loop in (
-      omega (arith, got r .0, got r .1, long r, c .before .before .before .before .before .before .before .list-next .ensures),
-      omega (arith, got r .1, l .inv .2),
-      omega (arith, l .inv .2),
-      omega (arith, l .inv .3),
-      omega (arith, l .inv .4),
-      omega (arith, l .inv .5),
-    )
 
 same-length-9 : tie.Need-same-length-9 Inv-loop μ-loop
 same-length-9 c = search needs
@@ -134,6 +117,52 @@ same-length-11 c = search needs
 
 same-length-12 : tie.Need-same-length-12 Inv-loop μ-loop
 same-length-12 c = search needs
+
+returns-2 : tie.Need-returns-2 Inv-loop μ-loop
+returns-2 c = search needs
+
+add-at : tie.Need-add-at Inv-loop μ-loop
+add-at c =
+    let r = c .before .before .before .before .before .before .before .before .before .before .before .before .before .before .before .before .before .before .before in
+    omega (arith, got r .0, got r .1, long r, c .before .before .before .before .before .before .before .before .before .before .before .list-next .ensures)
+
+add-block : tie.Need-add-block Inv-loop μ-loop
+add-block c = search needs
+
+loop-less : tie.Need-loop-less Inv-loop μ-loop
+loop-less c = search needs
+
+loop-again : tie.Need-loop-again Inv-loop μ-loop
+loop-again c =
+    let r = c .before .before .before .before .before .before .before .before .before .before .before .before .before .before .before .before .before .before .before in
+    let l = c .before .before .before .before .before .before .before .before .before .before .before .before .before .before .before .before .before .before .before .before .before .before .before .before .before .before .before .loop in (
+      omega (arith, got r .0, got r .1, long r, c .before .before .before .before .before .before .before .before .before .before .before .list-next .ensures),
+      omega (arith, got r .1, l .inv .2),
+      omega (arith, l .inv .2),
+      omega (arith, l .inv .3),
+      omega (arith, l .inv .4),
+      omega (arith, l .inv .5),
+      omega (arith, l .inv .6),
+      omega (arith, l .inv .7),
+    )
+
+same-length-13 : tie.Need-same-length-13 Inv-loop μ-loop
+same-length-13 c = search needs
+
+same-length-14 : tie.Need-same-length-14 Inv-loop μ-loop
+same-length-14 c = search needs
+
+same-length-15 : tie.Need-same-length-15 Inv-loop μ-loop
+same-length-15 c = search needs
+
+same-length-16 : tie.Need-same-length-16 Inv-loop μ-loop
+same-length-16 c = search needs
+
+same-length-17 : tie.Need-same-length-17 Inv-loop μ-loop
+same-length-17 c = search needs
+
+same-length-18 : tie.Need-same-length-18 Inv-loop μ-loop
+same-length-18 c = search needs
 
 returns-3 : tie.Need-returns-3 Inv-loop μ-loop
 returns-3 c = search needs
@@ -153,22 +182,28 @@ list-blocks-spec =
     same-length-2
     same-length-3
     same-length-4
+    same-length-5
+    same-length-6
     returns
     sub-left
     part-left-start
     part-left-end
     list-next-requires
-    same-length-5
-    same-length-6
     same-length-7
     same-length-8
+    same-length-9
+    same-length-10
+    same-length-11
+    same-length-12
     returns-2
     add-at
     add-block
     loop-less
     loop-again
-    same-length-9
-    same-length-10
-    same-length-11
-    same-length-12
+    same-length-13
+    same-length-14
+    same-length-15
+    same-length-16
+    same-length-17
+    same-length-18
     returns-3)

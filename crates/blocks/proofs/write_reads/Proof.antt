@@ -1,13 +1,13 @@
--- `blocks::write_block` meets its contract: the walk is not refused, and writes all. Assumes
+-- `blocks::write_reads` meets its contract: the walk is not refused, and writes all. Assumes
 -- nothing.
 use mathlib.Core.Path.{sym, _∙_}
 use native.Mathlib.Omega.{arith}
 use Rattle.base.specs.Lists.{AllBytes}
 use borrow.Author.Needs.{needs}
 use Rattle.blocks.proofs.AcceptedLaws.{BlockParts, block-parts, all-found, block-writable}
-use Rattle.blocks.proofs.DecodeLaws.{decode-not-refused, decode-written}
-use Rattle.blocks.proofs.write_block.Statement.{statement}
-use Rattle.blocks.proofs.write_block.Tie as tie
+use Rattle.blocks.proofs.WriteLaws.{reads-not-refused, reads-written}
+use Rattle.blocks.proofs.write_reads.Statement.{statement}
+use Rattle.blocks.proofs.write_reads.Tie as tie
 
 -- Where the function begins, and what is known of the block there.
 abbrev start : (c : tie.After-pair-table) → tie.Start
@@ -68,9 +68,8 @@ returns c =
     let begin = start tables in
     let a = begin .args in
     absurd
-    (decode-not-refused (a .bases) (a .reference .now) (a .input .now) (begin .pre .divided)
-    (a .bytes) (a .letters .now) (a .ends .now) (begin .pre .answer) (begin .pre .letters-fit)
-    (begin .pre .ends-fit) _
+    (reads-not-refused (a .bases) (a .reference .now) (a .input .now) (begin .pre .divided)
+    (a .bytes) (a .letters .now) (a .ends .now) _
     (all-found (a .bases) (a .reference .now) (a .input .now) (begin .pre .divided) (bytes tables)
     (parts tables))
     _ _ (sym (c .enum-told .given .1) ∙ done .walk-block .ensures .answered))
@@ -87,15 +86,15 @@ returns-2 c =
     let tables = done .before .before .before .before .before .before in
     let begin = start tables in
     let a = begin .args in
-    decode-written (a .bases) (a .reference .now) (a .input .now) (begin .pre .divided)
-    (a .bytes) (a .letters .now) (a .ends .now) (begin .pre .answer) (begin .pre .letters-fit)
-    (begin .pre .ends-fit) _
-    (all-found (a .bases) (a .reference .now) (a .input .now) (begin .pre .divided) (bytes tables)
-    (parts tables))
+    λ divided answer.
+    reads-written (a .bases) (a .reference .now) (a .input .now) divided (a .bytes)
+    (a .letters .now) (a .ends .now) _
+    (all-found (a .bases) (a .reference .now) (a .input .now) divided (bytes tables)
+    (block-parts _ _ _ _ _ answer))
     _ _ _ _ _ _ (c .before .walked .given .1) (done .walk-block .ensures)
 
-pub write-block-spec : {M : Type 1} → statement M
-write-block-spec =
+pub write-reads-spec : {M : Type 1} → statement M
+write-reads-spec =
     tie.close
     (tie.spec
     word-table-requires
