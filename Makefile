@@ -5,8 +5,9 @@
 # program's, target/bin/listing, where make run has built it; it needs cargo.
 # make listing: makes the sample of the listing program and the cases of listing_cases again; it needs cargo.
 # make corpus: makes its cases in crates/corpus again (rust/second/CORPUS.md); it needs cargo.
-# make bench: measures whole blocks, the writers of a stretch, the walk over the lengths and the encoder of a size
-# section (docs/BENCHMARK.md); it needs cargo, and Linux on x86-64. It fails where answers differ, never for a speed.
+# make bench: measures whole blocks, names, the writers of a stretch, the walk over the lengths and the encoder of a
+# size section (docs/BENCHMARK.md); it needs cargo, and Linux on x86-64. It fails where answers differ, never for a
+# speed.
 # make compare: the library and the second implementation on a million cases (rust/compare), the tests of the Rust
 # wrapper (rust/ora) and the examples in C; it needs cargo, a C compiler, and x86-64. SEED and COUNT choose other
 # cases; with CASE one case of a seed is run, and nothing else.

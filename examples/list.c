@@ -5,7 +5,8 @@
  *
  * The reference file is the number of bases in 8 bytes, the lowest first, and then the reference.
  * Each block gives a line with its b_id and counts, and a line for each read; the last line is
- * `end blocks N`, or `refused NUMBER BLOCK READ`. A reference file or a block has at most 32 KiB.
+ * `end blocks N`, or `refused NUMBER BLOCK READ`. Names are read and not printed. A reference file
+ * or a block has at most 32 KiB.
  *
  * Exit status: 0 if all blocks are listed, 1 after a refusal, 2 if a file cannot be read.
  */
@@ -15,13 +16,15 @@
 
 #include "ora.h"
 
-enum { WINDOW = 32768, LETTERS = 32768, ENDS = 4096 };
+enum { WINDOW = 32768, LETTERS = 32768, ENDS = 4096, NAMES = 32768, NAME_ENDS = 4096 };
 
 /* One byte more than is allowed, so that a longer reference file is told from a full one. */
 static uint8_t reference[WINDOW + 1];
 static uint8_t window[WINDOW];
 static uint8_t letters[LETTERS];
 static uint32_t ends[ENDS];
+static uint8_t names[NAMES];
+static uint32_t name_ends[NAME_ENDS];
 
 static int refused(uint64_t number, uint64_t block, uint64_t read) {
     printf("refused %" PRIu64 " %" PRIu64 " %" PRIu64 "\n", number, block, read);
@@ -58,7 +61,7 @@ static int list(uint64_t bases, size_t reference_len, FILE *blocks) {
             return 0;
         }
         if (ora_decode(bases, reference + 8, reference_len, window, used, letters, LETTERS, ends,
-                       ENDS, answer) != 0) {
+                       ENDS, names, NAMES, name_ends, NAME_ENDS, answer) != 0) {
             return refused(answer[ORA_REFUSAL], block, answer[ORA_READ_INDEX]);
         }
         print_block(ora_block_id(window, used), answer);

@@ -10,10 +10,11 @@
  * and a length, counted in elements.
  *   - A pointer is never null and is aligned for its element, also where the length is 0: any such
  *     pointer may then be passed, as nothing is read or written through it.
- *   - A buffer that is written to (letters, ends, out, answer) must not overlap any other. Those
- *     that are only read (const) may share memory.
+ *   - A buffer that is written to (letters, ends, names, name_ends, out, answer) must not overlap
+ *     any other. Those that are only read (const) may share memory.
  *   - A buffer may be longer than need be: what lies past the result keeps what it held.
- *   - After a refusal letters, ends and out hold what they held before. Only answer is written.
+ *   - After a refusal letters, ends, names, name_ends and out hold what they held before. Only
+ *     answer is written.
  *
  * The reference is `bases` bases, 0 to 4,294,967,295, in exactly (bases + 3) / 4 bytes: four bases
  * a byte, the first in the highest bits; A, C, G, T are 0, 1, 2, 3. Bits past the last base are
@@ -47,9 +48,13 @@
 #include <stdint.h>
 
 /* Raised whenever a function of this file changes. */
-#define ORA_INTERFACE_VERSION 1
+#define ORA_INTERFACE_VERSION 2
 
 #define ORA_ANSWER_SLOTS 16
+
+/* The byte of a block that holds its lowest eight flags, and the flag of names that are read. */
+#define ORA_FLAGS_OFFSET 42
+#define ORA_FLAG_NAMES 0x8
 
 #ifdef __cplusplus
 extern "C" {
@@ -144,7 +149,7 @@ enum ora_refusal {
 
     /* ora_decode alone: 22. */
 
-    /* letters or ends is too short for the block. */
+    /* letters, ends, names or name_ends is too short for the block. */
     ORA_CAPACITY_TOO_SMALL = 22,
 
     /* ora_encode alone: 30 to 34. */
@@ -158,7 +163,17 @@ enum ora_refusal {
     /* A letter is not A, C, G, T or N. */
     ORA_LETTER_INVALID = 33,
     /* The block is longer than out. */
-    ORA_BLOCK_CAPACITY_TOO_SMALL = 34
+    ORA_BLOCK_CAPACITY_TOO_SMALL = 34,
+
+    /* Reading, the names: 40, which comes after 21 and before 22. */
+
+    /* The names section stores no list of names, each of 1 to 255 printable ASCII bytes. */
+    ORA_NAMES_INVALID = 40,
+
+    /* ora_encode, the names: 41, which comes after 33 and before 34. */
+
+    /* The names are not one a read, each of 1 to 255 printable bytes, all of one token count. */
+    ORA_LENT_NAMES_INVALID = 41
 };
 
 /*
@@ -167,19 +182,29 @@ enum ora_refusal {
  * follows the block is not looked at. A block needs as many letters and ends as ora_validate_block
  * counts letters and reads.
  *
- * Refusals 1 to 22. Answer: length of the block in bytes, reads, letters, entries, differences.
+ * Names are read where the block stores them, and that is where flag 0x8 of its header is set:
+ * input[ORA_FLAGS_OFFSET] & ORA_FLAG_NAMES. The answer does not tell. They go into `names`, one
+ * after the other, and for each read the number of name bytes up to its name's end goes into
+ * `name_ends`. So there are as many names as reads, and the last name end is the number of name
+ * bytes, which is at most 255 a read. Without the flag both buffers keep what they held, and need
+ * no room.
+ *
+ * Refusals 1 to 21, 40, 22, in this order. Answer: length of the block in bytes, reads, letters,
+ * entries, differences.
  */
 uint64_t ora_decode(uint64_t bases, const uint8_t *reference, size_t reference_len,
                     const uint8_t *input, size_t input_len,
                     uint8_t *letters, size_t letters_len,
                     uint32_t *ends, size_t ends_len,
+                    uint8_t *names, size_t names_len,
+                    uint32_t *name_ends, size_t name_ends_len,
                     uint64_t answer[ORA_ANSWER_SLOTS]);
 
 /*
- * Judges the block at the start of input without giving its letters. What follows the block is not
- * looked at.
+ * Judges the block at the start of input, its names too where it stores them, without giving its
+ * letters and names. What follows the block is not looked at.
  *
- * Refusals 1 to 21. Answer: as ora_decode gives it.
+ * Refusals 1 to 21, and then 40. Answer: as ora_decode gives it.
  */
 uint64_t ora_validate_block(uint64_t bases, const uint8_t *reference, size_t reference_len,
                             const uint8_t *input, size_t input_len,
@@ -190,8 +215,8 @@ uint64_t ora_validate_block(uint64_t bases, const uint8_t *reference, size_t ref
  * accepted, unless the reference is refused: so a call with an empty file judges the reference
  * alone.
  *
- * Refusals 1 to 21, with the index of the refused block. Answer: number of blocks, and the sums of
- * reads, letters, entries and differences.
+ * Refusals 1 to 21 and 40, with the index of the refused block. Answer: number of blocks, and the
+ * sums of reads, letters, entries and differences.
  */
 uint64_t ora_validate(uint64_t bases, const uint8_t *reference, size_t reference_len,
                       const uint8_t *file, size_t file_len,
@@ -201,21 +226,25 @@ uint64_t ora_validate(uint64_t bases, const uint8_t *reference, size_t reference
  * Writes the one block that the fixed rule (docs/FORMAT.md, Canonical encoding) makes of these
  * reads to the start of `out`.
  *
- * `letters` and `ends` are the reads, as ora_decode gives them; ends_len is their number. The other
- * four have one element for each read, the place that an aligner proposes for it: `positions` the
- * lowest reference index, `strands` 1 for forward, 2 for reverse and any other number for no place,
- * `lefts` and `rights` how many letters stand before and after the aligned ones. No proposal is
- * refused: where it cannot be used, the read is written without a place. The block reads back as
- * these letters and ends, whatever the proposals.
+ * `letters` and `ends` are the reads, as ora_decode gives them; ends_len is their number. `names`
+ * and `name_ends` are their names, one a read, of 1 to 255 bytes of 32 to 126 each. A name is cut
+ * into tokens where digits meet other bytes, and all names have the same number of tokens. The
+ * other four have one element for each read, the place that an aligner proposes for it: `positions`
+ * the lowest reference index, `strands` 1 for forward, 2 for reverse and any other number for no
+ * place, `lefts` and `rights` how many letters stand before and after the aligned ones. No proposal
+ * is refused: where it cannot be used, the read is written without a place. The block reads back as
+ * these letters, ends, names and name ends, whatever the proposals; its flag 0x8 is set.
  *
- * A block takes at most 121 + letters_len / 2 + 256 * ends_len bytes; this one sentence is held by
- * tests and not by proof.
+ * A block takes at most 3440 + letters_len / 2 + 256 * ends_len + 4 * names_len bytes; this one
+ * sentence is held by tests and not by proof.
  *
- * Refusals 1 and 30 to 34. Answer: length of the block in bytes.
+ * Refusals 1, 30 to 33, 41, 34, in this order. Answer: length of the block in bytes.
  */
 uint64_t ora_encode(uint64_t bases, const uint8_t *reference, size_t reference_len,
                     const uint8_t *letters, size_t letters_len,
                     const uint32_t *ends, size_t ends_len,
+                    const uint8_t *names, size_t names_len,
+                    const uint32_t *name_ends, size_t name_ends_len,
                     const uint32_t *positions, size_t positions_len,
                     const uint8_t *strands, size_t strands_len,
                     const uint8_t *lefts, size_t lefts_len,

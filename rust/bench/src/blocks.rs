@@ -62,6 +62,7 @@ fn compare_damaged(random: &mut Prng) {
             max_reads: random.pick(&[1, 3, 20, 40]),
             max_length: random.pick(&[4, 40, 300]),
             max_carried: 2,
+            max_name: random.pick(&[4, 40]),
         };
         let plan = generate(random, shape);
         let mut block = plan.block();

@@ -5,6 +5,7 @@ mod blocks;
 mod clock;
 mod growth;
 mod lengths;
+mod names;
 mod sizes;
 mod stretches;
 mod tuned;
@@ -54,6 +55,8 @@ fn main() {
     blocks::print_tables();
     println!();
     growth::print_table();
+    println!();
+    names::print_tables();
     println!();
     let random = &mut Random(0x9e37_79b9_7f4a_7c15);
     stretches::print_table(random);

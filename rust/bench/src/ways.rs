@@ -89,7 +89,8 @@ pub fn proved_validate(work: &Work, _: &Tables, _: &mut Buffers) -> Outcome {
 
 pub fn proved_decode(work: &Work, _: &Tables, to: &mut Buffers) -> Outcome {
     let letters = &mut to.letters[..work.columns().letters.len()];
-    let answer = ora::decode_into(&reference_of(work), &work.block, letters, &mut to.ends);
+    let lent = ora::Buffers { letters, ends: &mut to.ends, ..ora::Buffers::default() };
+    let answer = ora::decode_into(&reference_of(work), &work.block, lent);
     answer.map_or(Outcome::Refused, |summary| Outcome::Decoded(counts_of(summary)))
 }
 
@@ -147,8 +148,8 @@ pub fn second_validate(work: &Work, _: &Tables, _: &mut Buffers) -> Outcome {
 
 pub fn second_decode(work: &Work, _: &Tables, to: &mut Buffers) -> Outcome {
     let letters = &mut to.letters[..work.columns().letters.len()];
-    let outcome =
-        second::decode(work.bases(), work.reference(), &work.block, letters, &mut to.ends);
+    let (reference, block, ends) = (work.reference(), &work.block, &mut to.ends);
+    let outcome = second::decode(work.bases(), reference, block, letters, ends, &mut [], &mut []);
     match outcome.number {
         0 => Outcome::Decoded(second_counts(outcome)),
         _ => Outcome::Refused,
@@ -162,6 +163,8 @@ pub fn second_encode(work: &Work, _: &Tables, to: &mut Buffers) -> Outcome {
         work.reference(),
         columns.letters,
         columns.ends,
+        columns.names,
+        columns.name_ends,
         columns.positions,
         columns.strands,
         columns.lefts,
@@ -176,8 +179,8 @@ pub fn second_encode(work: &Work, _: &Tables, to: &mut Buffers) -> Outcome {
     }
 }
 
-/// The counts of the library, the letters and ends of the reads, and the block: a way that gives
-/// others is not timed.
+/// The counts of the library, the letters and ends of the reads, and the block with its names: a
+/// way that gives others is not timed.
 pub fn compare(title: &str, way: &Way, work: &Work, tables: &Tables) {
     let expected = match proved_validate(work, tables, &mut Buffers::new(work)) {
         Outcome::Validated(counts) => counts,
@@ -191,7 +194,7 @@ pub fn compare(title: &str, way: &Way, work: &Work, tables: &Tables) {
         Outcome::Copied => written(),
         Outcome::Validated(counts) => counts == expected,
         Outcome::Decoded(counts) => counts == expected && written(),
-        Outcome::Encoded(length) => to.block[..length] == work.block,
+        Outcome::Encoded(length) => to.block[..length] == work.written,
         Outcome::Refused => false,
     };
     assert!(agrees, "{title}: {}: {outcome:?} differs, or what is written", way.title);

@@ -1,7 +1,8 @@
 //! The blocks that are timed: reads cut out of a random reference, encoded by the second
-//! implementation.
+//! implementation. Their names are all 0, the shortest that an encoder takes; what is validated and
+//! decoded is the block without them.
 use crate::tuned::SLACK;
-use ora::Columns;
+use ora::{without_names, Columns};
 use second::prng::Prng;
 
 pub const B_ID: u64 = 7;
@@ -49,16 +50,20 @@ pub fn reference(bytes: usize, random: &mut Prng) -> Vec<u8> {
 struct Reads {
     letters: Vec<u8>,
     ends: Vec<u32>,
+    names: Vec<u8>,
+    name_ends: Vec<u32>,
     positions: Vec<u32>,
     strands: Vec<u8>,
     lefts: Vec<u8>,
     rights: Vec<u8>,
 }
 
-/// A block, its reads, and the reference with its spare bytes.
+/// A block as it is written, the same without its names, its reads, and the reference with its
+/// spare bytes.
 pub struct Work<'a> {
     padded: &'a [u8],
     reads: Reads,
+    pub written: Vec<u8>,
     pub block: Vec<u8>,
 }
 
@@ -75,7 +80,7 @@ impl<'a> Work<'a> {
     }
 
     fn of(padded: &'a [u8], reads: Reads) -> Work<'a> {
-        let mut work = Work { padded, reads, block: Vec::new() };
+        let mut work = Work { padded, reads, written: Vec::new(), block: Vec::new() };
         let columns = work.columns();
         let mut block = vec![0; columns.room()];
         let outcome = second::encode(
@@ -83,6 +88,8 @@ impl<'a> Work<'a> {
             work.reference(),
             columns.letters,
             columns.ends,
+            columns.names,
+            columns.name_ends,
             columns.positions,
             columns.strands,
             columns.lefts,
@@ -93,7 +100,8 @@ impl<'a> Work<'a> {
         );
         assert!(outcome.number == 0, "the second implementation refuses the reads");
         block.truncate(outcome.length as usize);
-        work.block = block;
+        work.block = without_names(&block);
+        work.written = block;
         work
     }
 
@@ -119,8 +127,9 @@ impl<'a> Work<'a> {
     }
 
     pub fn columns(&self) -> Columns<'_> {
-        let Reads { letters, ends, positions, strands, lefts, rights } = &self.reads;
-        Columns { letters, ends, positions, strands, lefts, rights }
+        let Reads { letters, ends, names, name_ends, positions, strands, lefts, rights } =
+            &self.reads;
+        Columns { letters, ends, names, name_ends, positions, strands, lefts, rights }
     }
 }
 
@@ -176,6 +185,8 @@ impl Reads {
             self.letters[from + random.below(length as u64) as usize] = b'N';
         }
         self.ends.push(self.letters.len() as u32);
+        self.names.push(b'0');
+        self.name_ends.push(self.names.len() as u32);
         self.positions.push(start as u32);
         self.strands.push(if raw || raw4 { 0 } else { 2 - forward as u8 });
         self.lefts.push(left as u8);
@@ -189,6 +200,8 @@ impl Reads {
         Reads {
             letters: self.letters[from as usize..to as usize].to_vec(),
             ends: self.ends[cut.clone()].iter().map(|end| end - from).collect(),
+            names: self.names[cut.clone()].to_vec(),
+            name_ends: (1..=cut.len() as u32).collect(),
             positions: self.positions[cut.clone()].to_vec(),
             strands: self.strands[cut.clone()].to_vec(),
             lefts: self.lefts[cut.clone()].to_vec(),

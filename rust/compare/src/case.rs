@@ -44,28 +44,37 @@ impl Reading {
     }
 }
 
+/// Elements of the four buffers that decode takes, in this order.
+pub type Sizes = [usize; 4];
+pub const LETTERS: usize = 0;
+pub const ENDS: usize = 1;
+pub const NAMES: usize = 2;
+pub const NAME_ENDS: usize = 3;
+
 /// How much is lent to decode.
 #[derive(Clone, Copy, Debug)]
 pub enum Room {
-    /// So many letters and ends more than the block needs.
-    More(usize, usize),
-    /// One letter less than the block needs, or one end, or nothing at all.
-    LettersShort,
-    EndsShort,
+    /// So much more of each buffer than the block needs.
+    More(Sizes),
+    /// One element less of one buffer than the block needs, and one more of the others.
+    Short(usize),
     Nothing,
-    /// So many letters and ends, whatever the block needs.
-    Exactly(usize, usize),
+    /// So much, whatever the block needs.
+    Exactly(Sizes),
 }
 
 impl Room {
-    /// The letters and ends that are lent where the block needs so many.
-    pub fn lent(self, letters: usize, ends: usize) -> (usize, usize) {
+    /// What is lent where the block needs so much.
+    pub fn lent(self, needed: Sizes) -> Sizes {
         match self {
-            Room::More(more_letters, more_ends) => (letters + more_letters, ends + more_ends),
-            Room::LettersShort => (letters.saturating_sub(1), ends + 1),
-            Room::EndsShort => (letters + 1, ends.saturating_sub(1)),
-            Room::Nothing => (0, 0),
-            Room::Exactly(letters, ends) => (letters, ends),
+            Room::More(more) => std::array::from_fn(|buffer| needed[buffer] + more[buffer]),
+            Room::Short(short) => {
+                let mut lent = needed.map(|size| size + 1);
+                lent[short] = needed[short].saturating_sub(1);
+                lent
+            }
+            Room::Nothing => [0; 4],
+            Room::Exactly(sizes) => sizes,
         }
     }
 }
@@ -77,6 +86,8 @@ pub struct Writing {
     pub reference: Bytes,
     pub letters: Box<[u8]>,
     pub ends: Box<[u32]>,
+    pub names: Box<[u8]>,
+    pub name_ends: Box<[u32]>,
     pub positions: Box<[u32]>,
     pub strands: Box<[u8]>,
     pub lefts: Box<[u8]>,
@@ -98,6 +109,8 @@ impl Writing {
             reference: bytes(call.reference),
             letters: call.letters.into(),
             ends: call.ends.into(),
+            names: call.names.into(),
+            name_ends: call.name_ends.into(),
             positions: call.positions.into(),
             strands: call.strands.into(),
             lefts: call.lefts.into(),
@@ -112,6 +125,8 @@ impl Writing {
         Columns {
             letters: &self.letters,
             ends: &self.ends,
+            names: &self.names,
+            name_ends: &self.name_ends,
             positions: &self.positions,
             strands: &self.strands,
             lefts: &self.lefts,

@@ -1,12 +1,14 @@
 //! Runs one case through a library and through the second implementation, and compares everything
 //! that they give: every slot of every answer, every lent buffer whole, and what lies around it.
 
-use crate::case::{Case, Reading, Room, Work, Writing};
-use crate::lent::{Element, Lent};
+use crate::case::{Case, Reading, Room, Sizes, Work, Writing, ENDS, LETTERS, NAMES, NAME_ENDS};
+use crate::lent::{Element, Lent, LentBuffers};
 use crate::library::{Library, Second};
 use crate::observe;
 use crate::tally::{Call, Tally};
 use ora::raw::{Answer, SLOTS};
+use second::header::Header;
+use second::names::read_names;
 
 /// Two answers that differ.
 #[derive(Clone, Debug, PartialEq, Eq)]
@@ -41,8 +43,8 @@ fn check_reading(
     })?;
     let file =
         both(library, Call::Validate, margins, |side, answer| side.validate(under, input, answer))?;
-    let (letters, ends) = reading.room.lent(judged[5] as usize, judged[4] as usize);
-    let decoded = check_decode(library, reading, letters, ends, margins)?;
+    let needed = needed(input, &judged);
+    let decoded = check_decode(library, reading, needed, margins)?;
     for number in (0..9).chain([reading.section]) {
         let span = both(library, Call::Section, margins, |side, answer| {
             side.section(input, number, answer)
@@ -57,27 +59,40 @@ fn check_reading(
     tally.answer(Call::ValidateBlock, judged[0]);
     tally.answer(Call::Validate, file[0]);
     tally.answer(Call::Decode, decoded[0]);
-    observe::of_reading(reading, &judged, &file, &decoded, tally);
+    observe::of_reading(reading, needed, &judged, &file, &decoded, tally);
     Ok(())
+}
+
+/// What the block at the input's start needs of each buffer, given what judging it answered;
+/// nothing where it is refused. No answer tells how many bytes its names have.
+fn needed(input: &[u8], judged: &Answer) -> Sizes {
+    let (reads, letters) = (judged[4] as usize, judged[5] as usize);
+    let header = Header::read(input).ok().filter(|header| judged[0] == 0 && header.names_stored());
+    let Some(header) = header else { return [letters, reads, 0, 0] };
+    let names = read_names(header.section(input, second::header::NAMES), reads);
+    let bytes = names.map_or(0, |names| names.iter().map(Vec::len).sum());
+    [letters, reads, bytes, reads]
 }
 
 fn check_decode(
     library: &dyn Library,
     reading: &Reading,
-    letters: usize,
-    ends: usize,
+    needed: Sizes,
     margins: bool,
 ) -> Result<Answer, Disagreement> {
     let sides: [&dyn Library; 2] = [library, &Second];
-    let mut lent_letters = sides.map(|_| Lent::new(letters, margins));
-    let mut lent_ends = sides.map(|_| Lent::new(ends, margins));
-    let mut given = lent_letters.iter_mut().zip(&mut lent_ends);
+    let mut lent = sides.map(|_| LentBuffers::new(reading.room.lent(needed), margins));
+    let mut given = lent.iter_mut();
     let answer = both(library, Call::Decode, margins, |side, answer| {
-        let (letters, ends) = given.next().unwrap();
-        side.decode(reading.under(), &reading.input, letters.lend(), ends.lend(), answer)
+        let buffers = given.next().unwrap().lend();
+        side.decode(reading.under(), &reading.input, buffers, answer)
     })?;
-    compare_lent("decode", "letters", &lent_letters, answer[5] as usize)?;
-    compare_lent("decode", "ends", &lent_ends, answer[4] as usize)?;
+    let written = if answer[0] == 0 { needed } else { [0; 4] };
+    let [own, other] = &lent;
+    compare_lent("decode", "letters", [&own.letters, &other.letters], written[LETTERS])?;
+    compare_lent("decode", "ends", [&own.ends, &other.ends], written[ENDS])?;
+    compare_lent("decode", "names", [&own.names, &other.names], written[NAMES])?;
+    compare_lent("decode", "name_ends", [&own.name_ends, &other.name_ends], written[NAME_ENDS])?;
     Ok(answer)
 }
 
@@ -96,17 +111,20 @@ fn check_writing(
         side.encode(writing.under(), &writing.columns(), stamp, out, answer)
     })?;
     let length = answer[3] as usize;
-    compare_lent("encode", "out", &lent, length)?;
+    compare_lent("encode", "out", [&lent[0], &lent[1]], length)?;
     tally.answer(Call::Encode, answer[0]);
     if answer[0] == 0 {
         let block = &lent[0].held()[..length];
         observe::of_writing(writing, block, tally);
         check_written(library, writing, block, margins, tally)?;
+    } else {
+        observe::of_refused_writing(writing, &answer, tally);
     }
     Ok(())
 }
 
-/// What was written, with some bytes after it, is read by all calls and gives the reads again.
+/// What was written, with some bytes after it, is read by all calls and gives the reads and their
+/// names again.
 fn check_written(
     library: &dyn Library,
     writing: &Writing,
@@ -114,22 +132,24 @@ fn check_written(
     margins: bool,
     tally: &mut Tally,
 ) -> Result<(), Disagreement> {
-    let (letters, ends) = (writing.letters.len(), writing.ends.len());
+    let (names, name_ends) = (writing.names.len(), writing.name_ends.len());
+    let sizes = [writing.letters.len(), writing.ends.len(), names, name_ends];
     let reading = Reading {
         bases: writing.bases,
         reference: writing.reference.clone(),
         input: [block, &[0x49, 0x7C, 0x79]].concat().into(),
-        room: Room::Exactly(letters, ends),
+        room: Room::Exactly(sizes),
         section: writing.b_id,
     };
     check_reading(library, &reading, margins, tally)?;
-    let (mut read_letters, mut read_ends) = (vec![0; letters], vec![0; ends]);
+    let mut read = LentBuffers::new(sizes, false);
     let mut answer = [0; SLOTS];
-    let (under, input) = (reading.under(), &reading.input);
-    library.decode(under, input, &mut read_letters, &mut read_ends, &mut answer);
+    library.decode(reading.under(), &reading.input, read.lend(), &mut answer);
     compare("decode", "block that was written", &answer[..4], &[0, 0, 0, block.len() as u64])?;
-    compare("decode", "letters that were written", &read_letters[..], &writing.letters)?;
-    compare("decode", "ends that were written", &read_ends[..], &writing.ends)
+    compare("decode", "letters that were written", read.letters.held(), &writing.letters)?;
+    compare("decode", "ends that were written", read.ends.held(), &writing.ends)?;
+    compare("decode", "names that were written", read.names.held(), &writing.names)?;
+    compare("decode", "name_ends that were written", read.name_ends.held(), &writing.name_ends)
 }
 
 /// The answer that both sides give, in a buffer of its own, and return.
@@ -173,7 +193,7 @@ fn compare<T: PartialEq + std::fmt::Debug + ?Sized>(
 fn compare_lent<T: Element + std::fmt::Debug>(
     call: &'static str,
     what: &str,
-    lent: &[Lent<T>; 2],
+    lent: [&Lent<T>; 2],
     written: usize,
 ) -> Result<(), Disagreement> {
     let [own, other] = lent;

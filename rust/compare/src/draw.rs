@@ -2,7 +2,7 @@
 //! give the same case, whatever was drawn before.
 
 use crate::case::{Case, Work};
-use crate::readings::{files, lengths, records, steps};
+use crate::readings::{files, lengths, names, records, steps};
 use crate::stock::Stock;
 use crate::{readings, writings};
 use second::prng::Prng;
@@ -21,6 +21,10 @@ const FAMILIES: &[Family] = &[
     (500, "header fields", readings::header_fields),
     (300, "wild records", records::wild_records),
     (200, "full lists", records::full_lists),
+    (250, "names", names::sound),
+    (500, "names with a fault", names::one_fault),
+    (400, "wild names", names::wild),
+    (60, "long names", names::long),
     (600, "corpus, read", readings::corpus),
     (250, "steps", steps::steps),
     (150, "steps on the largest reference", steps::steps_on_the_largest),
@@ -35,7 +39,11 @@ const FAMILIES: &[Family] = &[
     (800, "written", writings::random),
     (700, "written, one fault", writings::one_fault),
     (150, "written, two faults", writings::two_faults),
-    (30, "too many reads", writings::too_many_reads),
+    (40, "too many reads", writings::too_many_reads),
+    (200, "written names", writings::names::sound),
+    (150, "written names with a fault", writings::names::one_fault),
+    (250, "written steps of names", writings::names::steps),
+    (50, "long names, written", writings::names::long),
     (250, "gaps", writings::gaps),
     (150, "written steps", writings::steps),
     (80, "written on the largest reference", writings::on_the_largest),

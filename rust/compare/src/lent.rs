@@ -1,6 +1,9 @@
 //! Lent buffers that tell what was written where. Each element holds a number made from its place
 //! before the call, so that one which is overwritten or moved shows.
 
+use crate::case::Sizes;
+use ora::Buffers;
+
 /// An element of a lent buffer.
 pub trait Element: Copy + Eq {
     /// What the element at a place holds before a call.
@@ -8,7 +11,7 @@ pub trait Element: Copy + Eq {
 }
 
 impl Element for u8 {
-    /// Never a letter, nor the first byte of a block.
+    /// Never a letter, a byte of a name, nor the first byte of a block.
     fn mark(place: usize) -> u8 {
         0x80 | (place.wrapping_mul(37) >> 1) as u8
     }
@@ -60,5 +63,33 @@ impl<T: Element> Lent<T> {
         let kept = |(place, element): (usize, &T)| *element == T::mark(place);
         self.all[..changed.start].iter().enumerate().all(kept)
             && (changed.end..).zip(&self.all[changed.end..]).all(kept)
+    }
+}
+
+/// The four buffers that decode takes.
+pub struct LentBuffers {
+    pub letters: Lent<u8>,
+    pub ends: Lent<u32>,
+    pub names: Lent<u8>,
+    pub name_ends: Lent<u32>,
+}
+
+impl LentBuffers {
+    pub fn new([letters, ends, names, name_ends]: Sizes, margins: bool) -> LentBuffers {
+        LentBuffers {
+            letters: Lent::new(letters, margins),
+            ends: Lent::new(ends, margins),
+            names: Lent::new(names, margins),
+            name_ends: Lent::new(name_ends, margins),
+        }
+    }
+
+    pub fn lend(&mut self) -> Buffers<'_> {
+        Buffers {
+            letters: self.letters.lend(),
+            ends: self.ends.lend(),
+            names: self.names.lend(),
+            name_ends: self.name_ends.lend(),
+        }
     }
 }

@@ -4,10 +4,11 @@
 //!
 //! - the returned number and all sixteen slots of each answer: number, indices, length or number of
 //!   blocks, counts, offset and length of a section, unused slots 0;
-//! - letters, ends and bytes written, and that a lent buffer holds what it held past them, after a
-//!   refusal all over, and around it in any case;
+//! - letters, ends, names, name ends and bytes written, and that a lent buffer holds what it held
+//!   past them, after a refusal all over, and around it in any case;
 //! - b_id, and the length of the block;
-//! - that a block which was written reads back as the letters and ends that it was made of.
+//! - that a block which was written reads back as the letters, ends, names and name ends that it
+//!   was made of.
 //!
 //! Every refusal of every call that owns it, and every path in `paths`, has to be met often enough,
 //! or the run fails. `make compare` runs a million cases; `make compare-valgrind` runs fewer in a

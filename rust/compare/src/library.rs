@@ -1,7 +1,7 @@
 //! The seven calls, as `include/ora.h` has them, of the library and of the second implementation.
 
 use ora::raw::{self, Answer};
-use ora::Columns;
+use ora::{Buffers, Columns};
 use second::Outcome;
 
 /// A reference, right or wrong.
@@ -16,14 +16,7 @@ pub type Stamp = (u64, u64);
 
 /// Something that answers the seven calls.
 pub trait Library: Sync {
-    fn decode(
-        &self,
-        under: Under,
-        input: &[u8],
-        letters: &mut [u8],
-        ends: &mut [u32],
-        answer: &mut Answer,
-    ) -> u64;
+    fn decode(&self, under: Under, input: &[u8], buffers: Buffers, answer: &mut Answer) -> u64;
 
     fn validate_block(&self, under: Under, input: &[u8], answer: &mut Answer) -> u64;
 
@@ -49,15 +42,8 @@ pub trait Library: Sync {
 pub struct Linked;
 
 impl Library for Linked {
-    fn decode(
-        &self,
-        under: Under,
-        input: &[u8],
-        letters: &mut [u8],
-        ends: &mut [u32],
-        answer: &mut Answer,
-    ) -> u64 {
-        raw::decode(under.bases, under.reference, input, letters, ends, answer)
+    fn decode(&self, under: Under, input: &[u8], buffers: Buffers, answer: &mut Answer) -> u64 {
+        raw::decode(under.bases, under.reference, input, buffers, answer)
     }
 
     fn validate_block(&self, under: Under, input: &[u8], answer: &mut Answer) -> u64 {
@@ -96,15 +82,10 @@ impl Library for Linked {
 pub struct Second;
 
 impl Library for Second {
-    fn decode(
-        &self,
-        under: Under,
-        input: &[u8],
-        letters: &mut [u8],
-        ends: &mut [u32],
-        answer: &mut Answer,
-    ) -> u64 {
-        let outcome = second::decode(under.bases, under.reference, input, letters, ends);
+    fn decode(&self, under: Under, input: &[u8], buffers: Buffers, answer: &mut Answer) -> u64 {
+        let Buffers { letters, ends, names, name_ends } = buffers;
+        let Under { bases, reference } = under;
+        let outcome = second::decode(bases, reference, input, letters, ends, names, name_ends);
         fill(answer, outcome, outcome.length)
     }
 
@@ -131,6 +112,8 @@ impl Library for Second {
             under.reference,
             columns.letters,
             columns.ends,
+            columns.names,
+            columns.name_ends,
             columns.positions,
             columns.strands,
             columns.lefts,

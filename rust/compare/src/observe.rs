@@ -1,7 +1,9 @@
 //! Sees which paths a case takes. A block that is accepted is looked at record by record, as the
 //! second implementation reads it.
 
-use crate::case::{Reading, Writing};
+mod names;
+
+use crate::case::{Reading, Sizes, Writing, ENDS, NAMES, NAME_ENDS};
 use crate::paths::Path;
 use crate::tally::Tally;
 use ora::raw::Answer;
@@ -25,9 +27,14 @@ fn i32_at(input: &[u8], at: usize) -> i32 {
     i32::from_le_bytes(input[at..at + 4].try_into().unwrap())
 }
 
-/// What is met in an input, given what its block, its blocks as a file, and decoding it answered.
+const SHORT: [Path; 4] =
+    [Path::LettersShort, Path::EndsShort, Path::NamesShort, Path::NameEndsShort];
+
+/// What is met in an input, given what its block needs of each buffer, and what its block, its
+/// blocks as a file, and decoding it answered.
 pub fn of_reading(
     reading: &Reading,
+    needed: Sizes,
     judged: &Answer,
     file: &Answer,
     decoded: &Answer,
@@ -44,26 +51,28 @@ pub fn of_reading(
         8 => tally.path_if(Path::SumAbove32Bits, told_length(input) > u32::MAX as u64),
         9 => tally.path_if(Path::NegativeLength, input[42] & 1 == 1 && i32_at(input, 46) < 0),
         10 => tally.path_if(Path::LettersAbove32Bits, told_letters(input) > u32::MAX as u64),
+        40 => names::of_refused(input, tally),
         _ => tally.path_if(Path::RefusedAfter100, judged[2] >= 100),
     }
     if judged[0] != 0 {
         return;
     }
-    let (letters, ends) = reading.room.lent(judged[5] as usize, judged[4] as usize);
-    let enough_letters = letters as u64 >= judged[5];
+    let lent = reading.room.lent(needed);
     let fits = decoded[0] == 0;
-    tally.path_if(
-        Path::JustFits,
-        fits && ends > 0 && [letters, ends].map(|lent| lent as u64) == [judged[5], judged[4]],
-    );
-    tally.path_if(Path::LettersShort, !fits && ends as u64 >= judged[4]);
-    tally.path_if(Path::EndsShort, !fits && enough_letters);
+    tally.path_if(Path::JustFits, fits && lent[ENDS] > 0 && lent == needed);
+    let short: Vec<usize> = (0..4).filter(|&buffer| lent[buffer] < needed[buffer]).collect();
+    if let [buffer] = short[..] {
+        tally.path_if(SHORT[buffer], !fits);
+    }
     tally.path_if(Path::BytesAfter, input.len() as u64 > judged[3]);
     tally.path_if(Path::NoBases, reading.bases == 0);
     let Ok(reference) = Reference::new(reading.bases, &reading.reference) else { return };
     if let (Ok(header), Ok(block)) = (Header::read(input), read_block(&reference, input)) {
         of_header(&header, tally);
         of_records(&reference, &block.records, tally);
+        names::of_accepted(&header, input, &block.names, tally);
+        let unread = !header.names_stored() && fits && lent[ENDS] > 0;
+        tally.path_if(Path::NamesNoRoom, unread && lent[NAMES] + lent[NAME_ENDS] == 0);
     }
 }
 
@@ -79,7 +88,7 @@ fn told_letters(input: &[u8]) -> u64 {
 
 fn of_header(header: &Header, tally: &mut Tally) {
     tally.path_if(Path::LongHeader, header.header_length > 121);
-    let opaque = [1, 2, 3, 6, 7, 8].map(|number| header.section_lengths[number]);
+    let opaque = [2, 3, 6, 7, 8].map(|number| header.section_lengths[number]);
     tally.path_if(Path::OpaqueSections, opaque.iter().any(|&length| length > 0));
     match header.reads {
         0 => tally.path(Path::NoReads),
@@ -194,6 +203,7 @@ pub fn of_writing(writing: &Writing, block: &[u8], tally: &mut Tally) {
         return;
     };
     tally.path_if(Path::WrittenEqual, header.same_length());
+    names::of_written(header.section(block, second::header::NAMES), tally);
     for (index, record) in read.records.iter().enumerate() {
         tally.path_if(Path::WrittenN31, record.n_positions.len() == 31);
         tally.path(match &record.kind {
@@ -212,6 +222,13 @@ pub fn of_writing(writing: &Writing, block: &[u8], tally: &mut Tally) {
             }
             _ => of_entries(&reference, record, tally),
         }
+    }
+}
+
+/// What is met in a call that is refused.
+pub fn of_refused_writing(writing: &Writing, answer: &Answer, tally: &mut Tally) {
+    if answer[0] == 41 {
+        names::of_refused_names(writing, tally);
     }
 }
 

@@ -4,15 +4,17 @@
 
 pub mod files;
 pub mod lengths;
+pub mod names;
 pub mod records;
 pub mod steps;
 
-use crate::case::{bytes, Bytes, Reading, Room, Work};
+use crate::case::{bytes, Bytes, Reading, Room, Work, ENDS, LETTERS, NAMES, NAME_ENDS};
 use crate::stock::Stock;
 use second::generator::{generate, Plan, Shape};
 use second::header::{Header, SECTIONS};
-use second::mutators::{damage, spoil_all};
+use second::mutators::{damage, spoil_all, BLOCK_NUMBERS};
 use second::prng::Prng;
+use second::NAMES_SECTION_INVALID;
 
 /// Bounds for a block that is read in microseconds.
 fn small_shape(rng: &mut Prng) -> Shape {
@@ -23,6 +25,7 @@ fn small_shape(rng: &mut Prng) -> Shape {
         max_reads,
         max_length,
         max_carried: rng.pick(&[0, 0, 1, 6]),
+        max_name: rng.pick(&[1, 4, 12, 12, 40, 40, 60, 255]),
     }
 }
 
@@ -38,7 +41,7 @@ fn section_number(rng: &mut Prng) -> u64 {
 }
 
 fn enough(rng: &mut Prng) -> Room {
-    rng.pick(&[Room::More(0, 0), Room::More(0, 0), Room::More(1, 1), Room::More(0, 3)])
+    Room::More(rng.pick(&[[0; 4], [0; 4], [1; 4], [0, 3, 0, 3], [0, 0, 5, 2]]))
 }
 
 fn reading(rng: &mut Prng, bases: u64, reference: Bytes, input: Vec<u8>) -> Work {
@@ -48,8 +51,9 @@ fn reading(rng: &mut Prng, bases: u64, reference: Bytes, input: Vec<u8>) -> Work
 }
 
 fn short(rng: &mut Prng) -> Room {
-    let some = Room::Exactly(rng.below(40) as usize, rng.below(6) as usize);
-    rng.pick(&[Room::LettersShort, Room::EndsShort, Room::Nothing, some])
+    let some = [40, 6, 40, 6].map(|bound| rng.below(bound) as usize);
+    let buffer = rng.pick(&[LETTERS, ENDS, NAMES, NAME_ENDS]);
+    rng.pick(&[Room::Short(buffer), Room::Short(buffer), Room::Nothing, Room::Exactly(some)])
 }
 
 fn of_plan(rng: &mut Prng, plan: &Plan) -> Work {
@@ -67,15 +71,21 @@ pub fn sound(rng: &mut Prng, _: &Stock) -> Work {
     of_plan(rng, &plan)
 }
 
-/// Each of 1 to 21 as often, in the first plan that has a place for it.
+/// Each of 1 to 21 and 40 as often, in the first plan that has a place for it.
 pub fn one_fault(rng: &mut Prng, _: &Stock) -> Work {
-    let number = rng.range(1, 21) as u32;
+    let number = rng.pick(&BLOCK_NUMBERS);
     let plan = spoiled(rng, &[number]);
     of_plan(rng, &plan)
 }
 
+/// Names are spoiled once.
 pub fn two_faults(rng: &mut Prng, _: &Stock) -> Work {
-    let numbers = [rng.range(1, 21) as u32, rng.range(9, 21) as u32];
+    let numbers = loop {
+        let numbers = [rng.pick(&BLOCK_NUMBERS), rng.pick(&BLOCK_NUMBERS[8..])];
+        if numbers != [NAMES_SECTION_INVALID; 2] {
+            break numbers;
+        }
+    };
     let plan = spoiled(rng, &numbers);
     of_plan(rng, &plan)
 }
@@ -91,7 +101,7 @@ fn spoiled(rng: &mut Prng, numbers: &[u32]) -> Plan {
     small_plan(rng)
 }
 
-/// 22: a sound block with reads, and too little of one buffer or of both.
+/// 22: a sound block with reads, and too little of one buffer or of several.
 pub fn little_room(rng: &mut Prng, _: &Stock) -> Work {
     let plan = loop {
         let plan = small_plan(rng);
@@ -135,7 +145,7 @@ fn edited(rng: &mut Prng, block: &[u8]) -> Vec<u8> {
     let header = Header::read(block).unwrap();
     let mut sections: Vec<Vec<u8>> =
         (0..SECTIONS as u64).map(|number| header.section(block, number).to_vec()).collect();
-    let number = rng.pick(&[0, 0, 0, 0, 4, 4, 5, 5, 1, 8]);
+    let number = rng.pick(&[0, 0, 0, 0, 4, 4, 5, 5, 1, 1, 1, 8]);
     let section = &mut sections[number];
     let length = section.len() as u64;
     let any = rng.byte();
@@ -211,7 +221,7 @@ pub fn header_fields(rng: &mut Prng, _: &Stock) -> Work {
     let mut work = reading(rng, plan.reference.bases, bytes(plan.reference.bytes), input);
     if let Work::Reading(reading) = &mut work {
         // A block that tells more reads than it has is not given room for them.
-        reading.room = Room::Exactly(rng.below(4000) as usize, rng.below(40) as usize);
+        reading.room = Room::Exactly([4000, 40, 4000, 40].map(|bound| rng.below(bound) as usize));
     }
     work
 }

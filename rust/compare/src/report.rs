@@ -41,6 +41,8 @@ fn describe(disagreement: &Disagreement, work: &Work) -> String {
             row("reference", hex(&writing.reference));
             row("letters", cut(&String::from_utf8_lossy(&writing.letters)));
             row("ends", cut(&format!("{:?}", writing.ends)));
+            row("names", cut(&writing.names.escape_ascii().to_string()));
+            row("name_ends", cut(&format!("{:?}", writing.name_ends)));
             row("positions", cut(&format!("{:?}", writing.positions)));
             row("strands", cut(&format!("{:?}", writing.strands)));
             row("lefts", cut(&format!("{:?}", writing.lefts)));

@@ -8,7 +8,7 @@ use second::mutators::spoil;
 use second::prng::Prng;
 use second::ENTRY_OFFSET_INVALID;
 
-const SEED: u64 = 3;
+const SEED: u64 = 7;
 const BLOCKS: usize = 3;
 
 /// A file's name and its bytes.
@@ -43,7 +43,9 @@ pub fn files() -> Vec<File> {
 
 /// Blocks with short reads, so that the listing can be read.
 fn sound_plans(rng: &mut Prng, reference: &ReferencePlan) -> Vec<Plan> {
-    let shape = Shape { bases: reference.bases, max_reads: 20, max_length: 40, max_carried: 6 };
+    let (max_reads, max_length) = (20, 40);
+    let shape =
+        Shape { bases: reference.bases, max_reads, max_length, max_carried: 6, max_name: 40 };
     let mut plan = || loop {
         let mut plan = generate_under(rng, shape, reference);
         if plan.lengths.len() >= 10 {

@@ -1,6 +1,6 @@
 //! Makes a case on which two sides differ smaller, as long as they differ: an input loses what
-//! follows the block, its opaque sections and its other bytes to zeros, a call of the encoder loses
-//! reads.
+//! follows the block, its opaque sections, its names and its other bytes to zeros, a call of the
+//! encoder its names and reads.
 
 use crate::case::{Reading, Room, Work, Writing};
 use crate::check::differs;
@@ -26,13 +26,18 @@ fn shrink_reading(mut reading: Reading, still: impl Fn(Work) -> bool) -> Reading
             *reading = smaller;
         }
     };
-    let smaller = Reading { room: Room::More(0, 0), section: 9, ..reading.clone() };
+    let smaller = Reading { room: Room::More([0; 4]), section: 9, ..reading.clone() };
     take(&mut reading, smaller);
     if let Ok(header) = Header::read(&reading.input) {
         let block = reading.input[..header.block_length() as usize].into();
         let smaller = Reading { input: block, ..reading.clone() };
         take(&mut reading, smaller);
-        let smaller = Reading { input: without_opaque(&header, &reading.input), ..reading.clone() };
+    }
+    // First with the names, where they are read, and then without.
+    for kept in [&[0, 1, 4, 5][..], &[0, 4, 5]] {
+        let Ok(header) = Header::read(&reading.input) else { break };
+        let input = with_sections(&header, &reading.input, kept);
+        let smaller = Reading { input, ..reading.clone() };
         take(&mut reading, smaller);
     }
     let mut half = reading.input.len() / 2;
@@ -52,12 +57,17 @@ fn shrink_reading(mut reading: Reading, still: impl Fn(Work) -> bool) -> Reading
     reading
 }
 
-/// The block with a header of 121 bytes and the sections that are read alone.
-fn without_opaque(header: &Header, input: &[u8]) -> Box<[u8]> {
+/// The block with a header of 121 bytes and these sections alone. Without the names section their
+/// flag is not set either; names that stay unread are never kept.
+fn with_sections(header: &Header, input: &[u8], kept: &[usize]) -> Box<[u8]> {
+    let named = header.names_stored() && kept.contains(&1);
     let mut block = input[..121].to_vec();
     block[2..6].copy_from_slice(&121u32.to_le_bytes());
+    if !named {
+        block[42] &= !8;
+    }
     for number in 0..SECTIONS {
-        if ![0, 4, 5].contains(&number) {
+        if !kept.contains(&number) || number == 1 && !named {
             block[6 + 4 * number..10 + 4 * number].fill(0);
         } else {
             block.extend(header.section(input, number as u64));
@@ -75,6 +85,10 @@ fn shrink_writing(mut writing: Writing, still: impl Fn(Work) -> bool) -> Writing
         taken
     };
     let smaller = Writing { b_id: 0, c_time: 0, ..writing.clone() };
+    take(&mut writing, smaller);
+    let reads = writing.ends.len();
+    let (names, name_ends) = (vec![b'0'; reads].into(), (1..=reads as u32).collect());
+    let smaller = Writing { names, name_ends, ..writing.clone() };
     take(&mut writing, smaller);
     let mut part = writing.ends.len().div_ceil(2);
     while part > 0 {
@@ -95,29 +109,42 @@ fn without_reads(writing: &Writing, first: usize, count: usize) -> Option<Writin
     let reads = writing.ends.len();
     let columns = [&writing.strands, &writing.lefts, &writing.rights];
     let one_each = columns.iter().all(|column| column.len() == reads);
-    if !one_each || writing.positions.len() != reads {
+    if !one_each || writing.positions.len() != reads || writing.name_ends.len() != reads {
         return None;
     }
     let last = (first + count).min(reads);
-    let start = if first == 0 { 0 } else { writing.ends[first - 1] };
-    let end = writing.ends[last - 1];
-    if start > end || end as usize > writing.letters.len() {
-        return None;
-    }
-    fn dropped<T: Copy>(column: &[T], from: usize, to: usize) -> Box<[T]> {
-        [&column[..from], &column[to..]].concat().into()
-    }
-    let mut ends = dropped(&writing.ends, first, last);
-    for later in &mut ends[first..] {
-        *later = later.wrapping_sub(end - start);
-    }
+    let (letters, ends) = without_parts(&writing.letters, &writing.ends, first, last)?;
+    let (names, name_ends) = without_parts(&writing.names, &writing.name_ends, first, last)?;
     Some(Writing {
-        letters: dropped(&writing.letters, start as usize, end as usize),
+        letters,
         ends,
+        names,
+        name_ends,
         positions: dropped(&writing.positions, first, last),
         strands: dropped(&writing.strands, first, last),
         lefts: dropped(&writing.lefts, first, last),
         rights: dropped(&writing.rights, first, last),
         ..writing.clone()
     })
+}
+
+fn dropped<T: Copy>(column: &[T], from: usize, to: usize) -> Box<[T]> {
+    [&column[..from], &column[to..]].concat().into()
+}
+
+/// Parts one after the other, and the end of each.
+type Parts = (Box<[u8]>, Box<[u32]>);
+
+/// The parts but those from `first` up to `last`; None where their ends fall, or pass the bytes.
+fn without_parts(bytes: &[u8], ends: &[u32], first: usize, last: usize) -> Option<Parts> {
+    let start = if first == 0 { 0 } else { ends[first - 1] };
+    let end = ends[last - 1];
+    if start > end || end as usize > bytes.len() {
+        return None;
+    }
+    let mut left = dropped(ends, first, last);
+    for later in &mut left[first..] {
+        *later = later.wrapping_sub(end - start);
+    }
+    Some((dropped(bytes, start as usize, end as usize), left))
 }

@@ -40,7 +40,10 @@ impl Stock {
             bases: case.call.bases,
             reference: bytes(case.call.reference),
             input: case.input.into(),
-            room: Room::Exactly(case.letters_lent as usize, case.ends_lent as usize),
+            room: Room::Exactly(
+                [case.letters_lent, case.ends_lent, case.name_bytes_lent, case.name_ends_lent]
+                    .map(|size| size as usize),
+            ),
             section: 9,
         };
         Stock {

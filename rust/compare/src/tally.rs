@@ -29,16 +29,16 @@ impl Call {
     /// Whether a call can refuse with a number, or accept.
     pub fn owns(self, number: u64) -> bool {
         match self {
-            Call::Decode => number <= 22,
-            Call::ValidateBlock | Call::Validate => number <= 21,
-            Call::Encode => number <= 1 || number >= 30,
+            Call::Decode => number <= 22 || number == 40,
+            Call::ValidateBlock | Call::Validate => number <= 21 || number == 40,
+            Call::Encode => number <= 1 || (30..=34).contains(&number) || number == 41,
             Call::Section => false,
         }
     }
 }
 
 /// One more than the largest number of refusal.
-const NUMBERS: usize = 35;
+const NUMBERS: usize = 42;
 
 #[derive(Clone)]
 pub struct Tally {

@@ -1,9 +1,12 @@
 //! The families of cases that are written: random calls and faults of the second implementation's
 //! proposals, and reads made here for the edges of the fixed rule.
 
+pub mod names;
+
 use crate::case::{Work, Writing};
 use crate::stock::Stock;
 use second::generator::{generate_reference, ReferencePlan};
+use second::name_plans::{draw_rows, joined};
 use second::prng::Prng;
 use second::proposals::{random_call, spoil_call, EncodeCall, Proposal};
 use second::reference::{Reference, Strand, MAX_BASES};
@@ -33,14 +36,17 @@ pub fn random(rng: &mut Prng, _: &Stock) -> Work {
     Work::Writing(Writing::of_call(call))
 }
 
-/// Each of 1 and 31 to 34 as often.
+/// Each of 1, 31 to 34 and 41 as often.
 pub fn one_fault(rng: &mut Prng, _: &Stock) -> Work {
-    let number = rng.pick(&[1, 31, 32, 33, 34]);
+    let number = rng.pick(&[1, 31, 32, 33, 34, 41]);
     Work::Writing(Writing::of_call(spoiled(rng, &[number])))
 }
 
+/// Names are spoiled once.
 pub fn two_faults(rng: &mut Prng, _: &Stock) -> Work {
-    let numbers = [rng.pick(&[1, 31, 32, 33]), rng.pick(&[31, 32, 33, 34])];
+    let first = rng.pick(&[1, 31, 32, 33, 41]);
+    let second: &[u32] = if first == 41 { &[31, 32, 33, 34] } else { &[31, 32, 33, 34, 41, 41] };
+    let numbers = [first, rng.pick(second)];
     Work::Writing(Writing::of_call(spoiled(rng, &numbers)))
 }
 
@@ -55,7 +61,7 @@ fn spoiled(rng: &mut Prng, numbers: &[u32]) -> EncodeCall {
     }
 }
 
-/// 30, also where the candidates, the ends or the reference would be refused.
+/// 30, also where the candidates, the ends, the names or the reference would be refused.
 pub fn too_many_reads(rng: &mut Prng, _: &Stock) -> Work {
     let mut call = small_call(rng);
     let reads = rng.pick(&[50_001, 50_001, 50_001, 50_000, 65_536, 65_537]);
@@ -216,7 +222,7 @@ pub fn corpus(rng: &mut Prng, stock: &Stock) -> Work {
     let byte = rng.byte();
     let any = rng.next_u64() as u32;
     let some = rng.pick(&[0, 1, 2, 3, 128, 255, byte]);
-    match rng.below(9) {
+    match rng.below(11) {
         0 => {}
         1 => put(&mut case.strands, read, some),
         2 => put(&mut case.lefts, read, some),
@@ -231,6 +237,15 @@ pub fn corpus(rng: &mut Prng, stock: &Stock) -> Work {
             put(&mut case.letters, place, rng.pick(b"ACGTNacgtn@Z"));
         }
         7 => case.lent = case.lent.saturating_sub(rng.range(1, 8) as usize),
+        8 => {
+            let end = case.name_ends.get(read).copied().unwrap_or(0);
+            let ends = [end.wrapping_add(1), end.wrapping_sub(1), end.wrapping_add(256), any];
+            put(&mut case.name_ends, read, rng.pick(&ends));
+        }
+        9 => {
+            let place = rng.below(case.names.len().max(1) as u64) as usize;
+            put(&mut case.names, place, rng.pick(&[byte, b'0', b'9', b'a', 32, 126, 127, 31]));
+        }
         _ => case.bases = case.bases.wrapping_add(rng.pick(&[1, 4, u64::MAX])),
     }
     Work::Writing(case)
@@ -289,6 +304,10 @@ pub fn many_reads(rng: &mut Prng, _: &Stock) -> Work {
         proposals.push(read);
     }
     let mut call = EncodeCall::new(&reference, &proposals, 7, 8);
+    if rng.coin() {
+        let max_name = rng.pick(&[8, 16, 40]);
+        (call.names, call.name_ends) = joined(&draw_rows(rng, count, max_name));
+    }
     lend(rng, &mut call);
     Work::Writing(Writing::of_call(call))
 }

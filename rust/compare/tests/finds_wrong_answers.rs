@@ -6,10 +6,10 @@ use compare::report::report;
 use compare::run::{run, Finding, Settings};
 use compare::stock::Stock;
 use ora::raw::Answer;
-use ora::Columns;
+use ora::{Buffers, Columns};
 
 /// Changes what a call answers and what it left in the buffers.
-type SpoilDecode = fn(&mut Answer, &mut [u8], &mut [u32]);
+type SpoilDecode = fn(&mut Answer, Buffers);
 type SpoilJudge = fn(&mut Answer, &[u8]);
 type SpoilEncode = fn(&mut Answer, &mut [u8]);
 type SpoilSection = fn(&mut Answer, u64);
@@ -34,17 +34,17 @@ impl Wrong {
 }
 
 impl Library for Wrong {
-    fn decode(
-        &self,
-        under: Under,
-        input: &[u8],
-        letters: &mut [u8],
-        ends: &mut [u32],
-        answer: &mut Answer,
-    ) -> u64 {
-        Linked.decode(under, input, letters, ends, answer);
+    fn decode(&self, under: Under, input: &[u8], buffers: Buffers, answer: &mut Answer) -> u64 {
+        let Buffers { letters, ends, names, name_ends } = buffers;
+        let lent = Buffers {
+            letters: &mut *letters,
+            ends: &mut *ends,
+            names: &mut *names,
+            name_ends: &mut *name_ends,
+        };
+        Linked.decode(under, input, lent, answer);
         if let Some(spoil) = self.decode {
-            spoil(answer, letters, ends);
+            spoil(answer, Buffers { letters, ends, names, name_ends });
         }
         self.number(answer[0])
     }
@@ -136,20 +136,22 @@ fn nothing_is_found_in_what_is_right() {
 #[test]
 fn slots() {
     let stock = &Stock::new();
-    let decode: [SpoilDecode; 6] = [
-        |answer, _, _| answer[0] += (answer[0] == 17) as u64,
-        |answer, _, _| answer[1] += (answer[0] == 12) as u64,
-        |answer, _, _| answer[2] += (answer[0] == 13) as u64,
-        |answer, _, _| answer[3] += accepted(answer) as u64,
-        |answer, _, _| answer[7] += accepted(answer) as u64,
-        |answer, _, _| answer[15] = 1,
+    let decode: [SpoilDecode; 7] = [
+        |answer, _| answer[0] += (answer[0] == 17) as u64,
+        |answer, _| answer[0] -= (answer[0] == 40) as u64,
+        |answer, _| answer[1] += (answer[0] == 12) as u64,
+        |answer, _| answer[2] += (answer[0] == 13) as u64,
+        |answer, _| answer[3] += accepted(answer) as u64,
+        |answer, _| answer[7] += accepted(answer) as u64,
+        |answer, _| answer[15] = 1,
     ];
     for spoil in decode {
         expect(stock, Wrong { decode: Some(spoil), ..Wrong::default() }, "decode", "slots");
     }
-    let judge: [SpoilJudge; 7] = [
+    let judge: [SpoilJudge; 8] = [
         |answer, _| answer[0] += (answer[0] == 8) as u64,
         |answer, _| answer[2] += (answer[0] == 20) as u64,
+        |answer, _| answer[2] += (answer[0] == 40) as u64,
         |answer, _| answer[3] += accepted(answer) as u64,
         |answer, _| answer[4] += (answer[0] == 9) as u64,
         |answer, _| answer[5] += accepted(answer) as u64,
@@ -169,8 +171,9 @@ fn slots() {
         let wrong = Wrong { validate: Some(spoil), ..Wrong::default() };
         expect(stock, wrong, "validate", "slots");
     }
-    let write: [SpoilEncode; 3] = [
+    let write: [SpoilEncode; 4] = [
         |answer, _| answer[0] += (answer[0] == 32) as u64,
+        |answer, _| answer[0] -= (answer[0] == 41) as u64,
         |answer, _| answer[3] -= accepted(answer) as u64,
         |answer, _| answer[4] += accepted(answer) as u64,
     ];
@@ -202,35 +205,73 @@ fn returned_numbers() {
 #[test]
 fn buffers() {
     let stock = &Stock::new();
-    let decode: [(&str, SpoilDecode); 6] = [
-        ("letters", |answer, letters, _| {
+    let decode: [(&str, SpoilDecode); 13] = [
+        ("letters", |answer, to| {
             if accepted(answer) && answer[5] > 0 {
-                letters[answer[5] as usize - 1] = b'a';
+                to.letters[answer[5] as usize - 1] = b'a';
             }
         }),
-        ("letters", |answer, letters, _| {
+        ("letters", |answer, to| {
             if accepted(answer) {
-                letters.iter_mut().skip(answer[5] as usize).for_each(|letter| *letter = 0);
+                to.letters.iter_mut().skip(answer[5] as usize).for_each(|letter| *letter = 0);
             }
         }),
-        ("letters", |answer, letters, _| {
+        ("letters", |answer, to| {
             if answer[0] == 22 {
-                letters.iter_mut().take(1).for_each(|letter| *letter = b'A');
+                to.letters.iter_mut().take(1).for_each(|letter| *letter = b'A');
             }
         }),
-        ("ends", |answer, _, ends| {
+        ("ends", |answer, to| {
             if accepted(answer) && answer[4] > 1 {
-                ends[1] += 1;
+                to.ends[1] += 1;
             }
         }),
-        ("ends", |answer, _, ends| {
+        ("ends", |answer, to| {
             if accepted(answer) {
-                ends.iter_mut().skip(answer[4] as usize).for_each(|end| *end = 0);
+                to.ends.iter_mut().skip(answer[4] as usize).for_each(|end| *end = 0);
             }
         }),
-        ("ends", |answer, _, ends| {
+        ("ends", |answer, to| {
             if answer[0] == 22 {
-                ends.iter_mut().take(1).for_each(|end| *end = 0);
+                to.ends.iter_mut().take(1).for_each(|end| *end = 0);
+            }
+        }),
+        // A byte of a name, or of names that stay unread.
+        ("names", |answer, to| {
+            if accepted(answer) {
+                to.names.iter_mut().take(1).for_each(|byte| *byte ^= 1);
+            }
+        }),
+        ("names", |answer, to| {
+            if accepted(answer) {
+                let ends = to.name_ends.iter().take(answer[4] as usize);
+                let length = ends.copied().max().unwrap_or(0);
+                to.names.iter_mut().skip(length as usize).for_each(|byte| *byte = 0);
+            }
+        }),
+        ("names", |answer, to| {
+            if answer[0] == 22 || answer[0] == 40 {
+                to.names.iter_mut().take(1).for_each(|byte| *byte = b'A');
+            }
+        }),
+        ("name_ends", |answer, to| {
+            if accepted(answer) {
+                to.name_ends.iter_mut().take(2).skip(1).for_each(|end| *end ^= 1);
+            }
+        }),
+        ("name_ends", |answer, to| {
+            if accepted(answer) {
+                to.name_ends.iter_mut().skip(answer[4] as usize).for_each(|end| *end = 0);
+            }
+        }),
+        ("name_ends", |answer, to| {
+            if answer[0] == 22 {
+                to.name_ends.iter_mut().take(1).for_each(|end| *end = 0);
+            }
+        }),
+        ("name_ends", |answer, to| {
+            if answer[0] == 40 {
+                to.name_ends.iter_mut().take(1).for_each(|end| *end = 0);
             }
         }),
     ];
@@ -263,7 +304,7 @@ fn buffers() {
 #[test]
 fn rare_blocks() {
     let stock = &Stock::new();
-    let rare: [SpoilJudge; 4] = [
+    let rare: [SpoilJudge; 7] = [
         // A read of more than 65,535 letters.
         |answer, _| answer[7] += (answer[4] == 1 && answer[5] > 65_535) as u64,
         // A block of 50,000 reads.
@@ -273,6 +314,21 @@ fn rare_blocks() {
             if answer[0] == 8 && input[9] >= 0x80 && input[13] >= 0x80 {
                 answer[0] = 12;
             }
+        },
+        // Names of 255 tokens.
+        |answer, input| {
+            let names = second::section(input, 1);
+            answer[3] += (accepted(answer) && names.starts_with(&[255, 0, 0, 0])) as u64
+        },
+        // A start of -1.
+        |answer, input| {
+            let negative = input.windows(8).any(|bytes| bytes == [0xFF; 8]);
+            answer[0] += (answer[0] == 40 && negative) as u64
+        },
+        // Names that stay unread and could be refused.
+        |answer, input| {
+            let unread = accepted(answer) && input[42] & 8 == 0;
+            answer[0] += 40 * (unread && !second::section(input, 1).is_empty()) as u64
         },
         // A negative l_read.
         |answer, input| {

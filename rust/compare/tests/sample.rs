@@ -43,6 +43,20 @@ fn the_sample_has_every_kind_on_both_strands() {
     assert_eq!(found, [true; 9]);
 }
 
+/// The listing prints no names, and reads those of each block that stores them.
+#[test]
+fn the_sample_has_names() {
+    let (reference, blocks) = (file("sample.reference"), file("sample.blocks"));
+    let reference = Reference::new(90, &reference[8..]).unwrap();
+    let (mut named, mut rest) = (Vec::new(), &blocks[..]);
+    while !rest.is_empty() {
+        let block = read_block(&reference, rest).unwrap();
+        rest = &rest[block.length as usize..];
+        named.push(block.names.len() == block.records.len());
+    }
+    assert_eq!(named.iter().filter(|&&named| named).count(), 2, "{named:?}");
+}
+
 #[test]
 fn the_listings_end_as_they_should() {
     let text = |name| String::from_utf8(file(name)).unwrap();

@@ -11,7 +11,7 @@ use std::ops::Range;
 pub enum Section {
     /// Groups and records.
     Dna,
-    /// Names; carried unread.
+    /// Names; carried unread without flag 0x8.
     Names,
     /// Quality scores of reads with N; carried unread.
     QualN,
@@ -66,10 +66,10 @@ pub fn section_span(input: &[u8], section: Section) -> Range<usize> {
 ///
 /// let reference = Reference::new(12, &[0x1B, 0x1B, 0xE4])?;
 /// let mut reads = Reads::new();
-/// reads.push(b"ACTT", Candidate::forward(0));
+/// reads.push(b"7", b"ACTT", Candidate::forward(0));
 /// let block = encode(&reference, &reads, 7, 0)?;
 /// assert_eq!(section(&block, Section::Dna), [0, 0x80, 0, 0x80, 0x0C, 0, 0, 0x0B]);
-/// assert_eq!(section(&block, Section::Names), []);
+/// assert_eq!(section(&block, Section::Size), []);
 /// # Ok::<(), ora::Refusal>(())
 /// ```
 pub fn section(input: &[u8], section: Section) -> &[u8] {
@@ -108,12 +108,12 @@ fn header_refusal(input: &[u8]) -> Refusal {
 ///
 /// let reference = Reference::new(12, &[0x1B, 0x1B, 0xE4])?;
 /// let mut reads = Reads::new();
-/// reads.push(b"ACTT", Candidate::forward(0));
+/// reads.push(b"7", b"ACTT", Candidate::forward(0));
 /// let file = [encode(&reference, &reads, 7, 0)?, encode(&reference, &reads, 8, 0)?].concat();
 ///
 /// let parts = blocks(&file).collect::<Result<Vec<_>, _>>()?;
 /// assert_eq!(parts.iter().map(|block| block.id()).collect::<Vec<_>>(), [7, 8]);
-/// assert_eq!(parts[1].offset, 130);
+/// assert_eq!(parts[1].offset, 151);
 ///
 /// let decoded = std::thread::scope(|scope| {
 ///     let threads: Vec<_> = (parts.iter())
@@ -184,12 +184,12 @@ impl<'a> Block<'a> {
         section(self.bytes, number)
     }
 
-    /// Judges it, with the refusals 1 to 21; a refusal has its index.
+    /// Judges it, with the refusals 1 to 21 and 40; a refusal has its index.
     pub fn validate(&self, reference: &Reference) -> Result<BlockSummary, Refusal> {
         validate_block(reference, self.bytes).map_err(|refusal| self.refused(refusal))
     }
 
-    /// Decodes it, with the refusals 1 to 21; a refusal has its index.
+    /// Decodes it, with the refusals 1 to 21 and 40; a refusal has its index.
     pub fn decode(&self, reference: &Reference) -> Result<Decoded, Refusal> {
         decode(reference, self.bytes).map_err(|refusal| self.refused(refusal))
     }

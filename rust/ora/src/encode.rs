@@ -65,17 +65,17 @@ impl Candidate {
     }
 }
 
-/// The reads of a block to be written, each with its candidate. It can be cleared and filled again.
-/// Nothing is judged before [`encode`].
+/// The reads of a block to be written, each with its name and its candidate. It can be cleared and
+/// filled again. Nothing is judged before [`encode`].
 ///
 /// ```
 /// use ora::{encode, Candidate, Reads, Reference};
 ///
 /// let reference = Reference::new(12, &[0x1B, 0x1B, 0xE4])?;
 /// let mut reads = Reads::new();
-/// reads.push(b"ACTT", Candidate::forward(0));
-/// reads.push(b"TACGA", Candidate::forward(0).clipped(1, 1));
-/// reads.push(b"GATTACA", Candidate::NONE);
+/// reads.push(b"run7:1:96", b"ACTT", Candidate::forward(0));
+/// reads.push(b"run7:1:105", b"TACGA", Candidate::forward(0).clipped(1, 1));
+/// reads.push(b"run7:2:8", b"GATTACA", Candidate::NONE);
 /// let block = encode(&reference, &reads, 7, 0)?;
 /// assert_eq!(ora::decode(&reference, &block)?.read(1), Some(&b"TACGA"[..]));
 /// # Ok::<(), ora::Refusal>(())
@@ -84,6 +84,8 @@ impl Candidate {
 pub struct Reads {
     letters: Vec<u8>,
     ends: Vec<u32>,
+    names: Vec<u8>,
+    name_ends: Vec<u32>,
     positions: Vec<u32>,
     strands: Vec<u8>,
     lefts: Vec<u8>,
@@ -96,11 +98,16 @@ impl Reads {
         Reads::default()
     }
 
-    /// Adds a read: its letters, A, C, G, T or N in ASCII capitals, and its candidate.
-    pub fn push(&mut self, letters: &[u8], candidate: Candidate) {
+    /// Adds a read: its name, 1 to 255 printable ASCII bytes, its letters, A, C, G, T or N in ASCII
+    /// capitals, and its candidate. A name is cut into tokens where digits meet other bytes; all
+    /// names of a block have the same number of tokens.
+    pub fn push(&mut self, name: &[u8], letters: &[u8], candidate: Candidate) {
         self.letters.extend_from_slice(letters);
         // Past 32 bits the last end is not the number of letters, which is refused with 32.
         self.ends.push(self.letters.len() as u32);
+        self.names.extend_from_slice(name);
+        // So too the last name end, with 41.
+        self.name_ends.push(self.names.len() as u32);
         self.positions.push(candidate.position);
         self.strands.push(candidate.strand_byte());
         self.lefts.push(candidate.left);
@@ -111,6 +118,8 @@ impl Reads {
     pub fn clear(&mut self) {
         self.letters.clear();
         self.ends.clear();
+        self.names.clear();
+        self.name_ends.clear();
         self.positions.clear();
         self.strands.clear();
         self.lefts.clear();
@@ -137,6 +146,8 @@ impl Reads {
         Columns {
             letters: &self.letters,
             ends: &self.ends,
+            names: &self.names,
+            name_ends: &self.name_ends,
             positions: &self.positions,
             strands: &self.strands,
             lefts: &self.lefts,
@@ -145,14 +156,18 @@ impl Reads {
     }
 }
 
-/// The reads of a block to be written and their candidates as plain slices, as the C interface
-/// takes them. Each but `letters` has one element for each read.
+/// The reads of a block to be written, their names and their candidates as plain slices, as the C
+/// interface takes them. Each but `letters` and `names` has one element for each read.
 #[derive(Clone, Copy, Debug, Default)]
 pub struct Columns<'a> {
     /// The letters of all reads, one read after the other.
     pub letters: &'a [u8],
     /// For each read the number of letters up to its end.
     pub ends: &'a [u32],
+    /// The names of all reads, one name after the other.
+    pub names: &'a [u8],
+    /// For each name the number of bytes up to its end.
+    pub name_ends: &'a [u32],
     /// The position of each candidate.
     pub positions: &'a [u32],
     /// The strand of each candidate: 1 forward, 2 reverse, any other number for no place.
@@ -164,19 +179,21 @@ pub struct Columns<'a> {
 }
 
 impl Columns<'_> {
-    /// Room for any block of so many reads and letters, in bytes.
+    /// Room for any block of so many reads, letters and name bytes, in bytes.
     ///
     /// A record takes 1 byte and at most (letters+1)/2, or (letters+3)/4 or 165 and 69 for an N
-    /// list; a length takes at most 8; eight reads share 7 bytes; the header takes 121. This bound
-    /// is held by tests and not by proof.
+    /// list; a length takes at most 8; eight reads share 7 bytes; the header takes 121. Names take
+    /// 4 bytes, 9 for each token of a name, and for all names' tokens at one place at most 4 and 4
+    /// a read, or one more than its bytes for each; there are at most 255 tokens in a name, each of
+    /// a byte or more. 121 + 4 + 255 * 13 is 3440. This bound is held by tests and not by proof.
     pub fn room(&self) -> usize {
-        121 + self.letters.len() / 2 + 256 * self.ends.len()
+        3440 + self.letters.len() / 2 + 256 * self.ends.len() + 4 * self.names.len()
     }
 }
 
-/// Writes the one block that the fixed rule makes of these reads, with the refusals 30, 32 and 33.
-/// `b_id` and `c_time` are stored as they are. The block decodes to these reads, whatever the
-/// candidates.
+/// Writes the one block that the fixed rule makes of these reads, with the refusals 30, 32, 33 and
+/// 41. `b_id` and `c_time` are stored as they are. The block decodes to these reads and names,
+/// whatever the candidates.
 pub fn encode(
     reference: &Reference,
     reads: &Reads,
@@ -191,8 +208,8 @@ pub fn encode(
     Ok(block)
 }
 
-/// Writes the block to the start of the caller's buffer, with the refusals 30 to 34, and answers
-/// its length in bytes. What lies past it keeps what it held, and after a refusal all does.
+/// Writes the block to the start of the caller's buffer, with the refusals 30 to 33, 41 and 34, and
+/// answers its length in bytes. What lies past it keeps what it held, and after a refusal all does.
 ///
 /// ```
 /// use ora::{encode_into, Columns, Reference};
@@ -201,6 +218,8 @@ pub fn encode(
 /// let columns = Columns {
 ///     letters: b"ACTTCAAC",
 ///     ends: &[4, 8],
+///     names: b"read9read10",
+///     name_ends: &[5, 11],
 ///     positions: &[0, 6],
 ///     strands: &[1, 2],
 ///     lefts: &[0, 0],
@@ -208,7 +227,7 @@ pub fn encode(
 /// };
 /// let mut out = [b'.'; 200];
 /// let length = encode_into(&reference, &columns, 7, 0, &mut out)?;
-/// assert_eq!((length, out[length]), (132, b'.'));
+/// assert_eq!((length, out[length]), (173, b'.'));
 /// # Ok::<(), ora::Refusal>(())
 /// ```
 pub fn encode_into(

@@ -1,6 +1,6 @@
 //! Reads and writes opened ORA blocks: DNA reads kept as places on a reference with lists of
-//! differences. This crate is a safe wrapper around a library whose every function is proved to
-//! meet its contract; `docs/FORMAT.md` describes the format and the refusals.
+//! differences, and their names. This crate is a safe wrapper around a library whose every function
+//! is proved to meet its contract; `docs/FORMAT.md` describes the format and the refusals.
 //!
 //! | To | Call |
 //! |---|---|
@@ -9,6 +9,7 @@
 //! | write a block | [`encode`], [`encode_into`] an own buffer |
 //! | walk over a file's blocks, without a reference | [`blocks`], [`block_length`] |
 //! | look into a block, without a reference | [`section`], [`section_span`], [`block_id`] |
+//! | tell whether a block has names, or drop them | [`has_names`], [`without_names`] |
 //!
 //! ```
 //! use ora::{decode, encode, Candidate, Reads, Reference};
@@ -17,13 +18,14 @@
 //! let reference = Reference::new(12, &[0x1B, 0x1B, 0xE4])?;
 //!
 //! let mut reads = Reads::new();
-//! reads.push(b"ACTT", Candidate::forward(0));
-//! reads.push(b"CAAC", Candidate::reverse(6));
-//! reads.push(b"GATTACA", Candidate::NONE);
+//! reads.push(b"run7:1:96", b"ACTT", Candidate::forward(0));
+//! reads.push(b"run7:1:105", b"CAAC", Candidate::reverse(6));
+//! reads.push(b"run7:2:8", b"GATTACA", Candidate::NONE);
 //! let block = encode(&reference, &reads, 7, 0)?;
 //!
 //! let decoded = decode(&reference, &block)?;
 //! assert_eq!(decoded.read(1), Some(&b"CAAC"[..]));
+//! assert_eq!(decoded.names().and_then(|names| names.get(1)), Some(&b"run7:1:105"[..]));
 //! assert_eq!(decoded.summary().counts.letters, 15);
 //! # Ok::<(), ora::Refusal>(())
 //! ```
@@ -40,6 +42,7 @@
 
 mod blocks;
 mod encode;
+mod names;
 pub mod raw;
 mod read;
 mod reference;
@@ -47,8 +50,10 @@ mod refusal;
 
 pub use blocks::{block_id, block_length, blocks, section, section_span, Block, Blocks, Section};
 pub use encode::{encode, encode_into, Candidate, Columns, Reads, Strand};
+pub use names::{has_names, without_names, Names};
 pub use read::{
-    decode, decode_into, validate, validate_block, BlockSummary, Counts, Decoded, FileSummary,
+    decode, decode_into, validate, validate_block, BlockSummary, Buffers, Counts, Decoded,
+    FileSummary,
 };
 pub use reference::Reference;
 pub use refusal::{Refusal, RefusalKind};
@@ -61,3 +66,6 @@ pub const MAX_READS: usize = 50_000;
 
 /// The most letters that a read can have; it has at least one.
 pub const MAX_READ_LENGTH: usize = 100_000;
+
+/// The most bytes that a name can have; it has at least one.
+pub const MAX_NAME_LENGTH: usize = 255;

@@ -7,6 +7,7 @@
 #![allow(unsafe_code)]
 
 use crate::encode::Columns;
+use crate::read::Buffers;
 
 /// The number of slots of an answer.
 pub const SLOTS: usize = 16;
@@ -26,6 +27,10 @@ mod c {
             letters_len: usize,
             ends: *mut u32,
             ends_len: usize,
+            names: *mut u8,
+            names_len: usize,
+            name_ends: *mut u32,
+            name_ends_len: usize,
             answer: *mut u64,
         ) -> u64;
 
@@ -55,6 +60,10 @@ mod c {
             letters_len: usize,
             ends: *const u32,
             ends_len: usize,
+            names: *const u8,
+            names_len: usize,
+            name_ends: *const u32,
+            name_ends_len: usize,
             positions: *const u32,
             positions_len: usize,
             strands: *const u8,
@@ -88,16 +97,16 @@ mod c {
 // is written to overlaps no other: references to slices say all of that, also of empty ones. An
 // answer has the sixteen elements that are written. No pointer is kept after the call.
 
-/// `ora_decode`: the letters and ends of the block at the start of the input.
+/// `ora_decode`: the letters, ends, names and name ends of the block at the start of the input.
 pub fn decode(
     bases: u64,
     reference: &[u8],
     input: &[u8],
-    letters: &mut [u8],
-    ends: &mut [u32],
+    buffers: Buffers,
     answer: &mut Answer,
 ) -> u64 {
-    // SAFETY: pointers and lengths are those of slices, and `letters`, `ends` and `answer` are
+    let Buffers { letters, ends, names, name_ends } = buffers;
+    // SAFETY: pointers and lengths are those of slices, and the four buffers and `answer` are
     // borrowed for this call alone.
     unsafe {
         c::ora_decode(
@@ -110,6 +119,10 @@ pub fn decode(
             letters.len(),
             ends.as_mut_ptr(),
             ends.len(),
+            names.as_mut_ptr(),
+            names.len(),
+            name_ends.as_mut_ptr(),
+            name_ends.len(),
             answer.as_mut_ptr(),
         )
     }
@@ -157,7 +170,7 @@ pub fn encode(
     out: &mut [u8],
     answer: &mut Answer,
 ) -> u64 {
-    let Columns { letters, ends, positions, strands, lefts, rights } = *columns;
+    let Columns { letters, ends, names, name_ends, positions, strands, lefts, rights } = *columns;
     // SAFETY: pointers and lengths are those of slices, and `out` and `answer` are borrowed for
     // this call alone.
     unsafe {
@@ -169,6 +182,10 @@ pub fn encode(
             letters.len(),
             ends.as_ptr(),
             ends.len(),
+            names.as_ptr(),
+            names.len(),
+            name_ends.as_ptr(),
+            name_ends.len(),
             positions.as_ptr(),
             positions.len(),
             strands.as_ptr(),

@@ -73,7 +73,7 @@ refusal_kinds! {
     NPositionsInvalid = 20,
         "an N list breaks its rules, or raw4's with-N bit does not say whether it holds an N";
     DnaTrailing = 21, "bytes of the DNA section are left after the last record";
-    CapacityTooSmall = 22, "letters or ends is too short for the block";
+    CapacityTooSmall = 22, "letters, ends, names or name_ends is too short for the block";
     ReadCountTooLarge = 30, "there are more than 50,000 reads";
     CandidateCountWrong = 31,
         "positions, strands, lefts and rights do not all have one element for each read";
@@ -81,6 +81,10 @@ refusal_kinds! {
         "the ends do not rise from 0 by 1 to 100,000, or the last is not the number of letters";
     LetterInvalid = 33, "a letter is not A, C, G, T or N";
     BlockCapacityTooSmall = 34, "the block is longer than out";
+    NamesInvalid = 40,
+        "the names section stores no list of names, each of 1 to 255 printable ASCII bytes";
+    LentNamesInvalid = 41,
+        "the names are not one a read, each of 1 to 255 printable bytes, all of one token count";
 }
 
 impl RefusalKind {

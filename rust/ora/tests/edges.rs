@@ -15,12 +15,43 @@ fn no_bases() -> Reference<'static> {
     Reference::new(0, &[]).unwrap()
 }
 
-/// A block with the reads ACTT and GATTACA.
+/// A block with the reads ACTT and GATTACA, whose names are read9 and read10.
 fn two_reads() -> Vec<u8> {
     let mut reads = Reads::new();
-    reads.push(b"ACTT", Candidate::forward(0));
-    reads.push(b"GATTACA", Candidate::NONE);
+    reads.push(b"read9", b"ACTT", Candidate::forward(0));
+    reads.push(b"read10", b"GATTACA", Candidate::NONE);
     encode(&reference(), &reads, 7, 0).unwrap()
+}
+
+/// What is lent to decoding.
+struct Lent {
+    letters: Vec<u8>,
+    ends: Vec<u32>,
+    names: Vec<u8>,
+    name_ends: Vec<u32>,
+}
+
+impl Lent {
+    fn new([letters, ends, names, name_ends]: [usize; 4]) -> Lent {
+        Lent {
+            letters: vec![b'.'; letters],
+            ends: vec![99; ends],
+            names: vec![b'.'; names],
+            name_ends: vec![99; name_ends],
+        }
+    }
+
+    fn buffers(&mut self) -> Buffers<'_> {
+        let Lent { letters, ends, names, name_ends } = self;
+        Buffers { letters, ends, names, name_ends }
+    }
+
+    fn holds(&self, letters: &[u8], ends: &[u32], names: &[u8], name_ends: &[u32]) -> bool {
+        self.letters == letters
+            && self.ends == ends
+            && self.names == names
+            && self.name_ends == name_ends
+    }
 }
 
 fn refused(number: u64) -> Refusal {
@@ -47,8 +78,8 @@ fn nothing_at_all() {
     assert_eq!(validate(&no_bases(), &[]), Ok(FileSummary::default()));
     assert_eq!(validate_block(&no_bases(), &[]), Err(refused(2)));
     assert_eq!(decode(&no_bases(), &[]).unwrap_err(), refused(2));
-    assert_eq!(decode_into(&no_bases(), &[], &mut [], &mut []), Err(refused(2)));
-    assert_eq!(block_id(&[]), 0);
+    assert_eq!(decode_into(&no_bases(), &[], Buffers::default()), Err(refused(2)));
+    assert_eq!((block_id(&[]), has_names(&[]), without_names(&[])), (0, false, vec![]));
     assert_eq!(section(&[], Section::Dna), []);
     assert_eq!(block_length(&[]), Err(refused(2)));
     assert_eq!(blocks(&[]).count(), 0);
@@ -62,24 +93,29 @@ fn no_reads() {
     let decoded = decode(&no_bases(), &block).unwrap();
     assert!(decoded.is_empty() && decoded.iter().next().is_none() && decoded.read(0).is_none());
     assert_eq!(decoded.summary().length, NO_READS);
-    assert!(decode_into(&no_bases(), &block, &mut [], &mut []).is_ok());
+    let names = decoded.names().unwrap();
+    assert!(names.is_empty() && names.bytes().is_empty() && names.get(0).is_none());
+    assert!(decode_into(&no_bases(), &block, Buffers::default()).is_ok());
     assert_eq!(validate(&no_bases(), &block.repeat(2)).unwrap().blocks, 2);
 }
 
 #[test]
 fn buffers_that_just_fit() {
     let block = two_reads();
-    let (mut letters, mut ends) = ([b'.'; 11], [99; 2]);
-    let summary = decode_into(&reference(), &block, &mut letters, &mut ends).unwrap();
-    assert_eq!((summary.length, &letters, ends), (block.len(), b"ACTTGATTACA", [4, 11]));
+    let mut lent = Lent::new([11, 2, 11, 2]);
+    let summary = decode_into(&reference(), &block, lent.buffers()).unwrap();
+    assert_eq!(summary.length, block.len());
+    assert!(lent.holds(b"ACTTGATTACA", &[4, 11], b"read9read10", &[5, 11]));
 
-    let (mut letters, mut ends) = ([b'.'; 13], [99; 3]);
-    decode_into(&reference(), &block, &mut letters, &mut ends).unwrap();
-    assert_eq!((&letters, ends), (b"ACTTGATTACA..", [4, 11, 99]));
+    let mut lent = Lent::new([13, 3, 12, 4]);
+    decode_into(&reference(), &block, lent.buffers()).unwrap();
+    assert!(lent.holds(b"ACTTGATTACA..", &[4, 11, 99], b"read9read10.", &[5, 11, 99, 99]));
 
     let columns = Columns {
         letters: b"ACTTGATTACA",
         ends: &[4, 11],
+        names: b"read9read10",
+        name_ends: &[5, 11],
         positions: &[0, 0],
         strands: &[1, 0],
         lefts: &[0, 0],
@@ -93,20 +129,36 @@ fn buffers_that_just_fit() {
 #[test]
 fn refused_calls_change_nothing() {
     let block = two_reads();
-    for (letters, ends) in [(10, 2), (11, 1), (0, 2), (11, 0), (0, 0)] {
-        let (mut letters, mut ends) = (vec![b'.'; letters], vec![99; ends]);
-        let answer = decode_into(&reference(), &block, &mut letters, &mut ends);
-        assert_eq!(answer, Err(refused(22)));
-        assert!(letters.iter().all(|&letter| letter == b'.') && ends.iter().all(|&end| end == 99));
+    let kept = |lent: &Lent| {
+        lent.letters.iter().chain(&lent.names).all(|&byte| byte == b'.')
+            && lent.ends.iter().chain(&lent.name_ends).all(|&end| end == 99)
+    };
+    let fits = [11, 2, 11, 2];
+    for short in 0..4 {
+        for room in [0, fits[short] - 1] {
+            let mut sizes = fits;
+            sizes[short] = room;
+            let mut lent = Lent::new(sizes);
+            assert_eq!(decode_into(&reference(), &block, lent.buffers()), Err(refused(22)));
+            assert!(kept(&lent), "{sizes:?}");
+        }
     }
+    assert_eq!(decode_into(&reference(), &block, Buffers::default()), Err(refused(22)));
+    let mut lent = Lent::new([20; 4]);
     let cut = &block[..block.len() - 1];
-    let (mut letters, mut ends) = ([b'.'; 20], [99; 20]);
-    assert_eq!(decode_into(&reference(), cut, &mut letters, &mut ends), Err(refused(8)));
-    assert_eq!((letters, ends), ([b'.'; 20], [99; 20]));
+    assert_eq!(decode_into(&reference(), cut, lent.buffers()), Err(refused(8)));
+    assert!(kept(&lent));
+    let mut names_refused = block.clone();
+    names_refused[section_span(&block, Section::Names).start] = 0;
+    assert_eq!(decode_into(&reference(), &names_refused, lent.buffers()), Err(refused(40)));
+    assert_eq!(decode_into(&reference(), &names_refused, Buffers::default()), Err(refused(40)));
+    assert!(kept(&lent));
 
     let columns = Columns {
         letters: b"ACGT",
         ends: &[4],
+        names: b"0",
+        name_ends: &[1],
         positions: &[0],
         strands: &[0],
         lefts: &[0],
@@ -118,6 +170,9 @@ fn refused_calls_change_nothing() {
         (32, Columns { ends: &[3], ..columns }),
         (32, Columns { letters: &[], ..columns }),
         (33, Columns { letters: b"ACGt", ..columns }),
+        (33, Columns { letters: b"ACGt", names: b"", ..columns }),
+        (41, Columns { names: b"", ..columns }),
+        (41, Columns { name_ends: &[], ..columns }),
         (34, columns),
     ];
     for (number, columns) in refusals {
@@ -132,20 +187,20 @@ fn refused_calls_change_nothing() {
 fn too_many_reads() {
     let mut reads = Reads::new();
     for _ in 0..MAX_READS {
-        reads.push(b"A", Candidate::NONE);
+        reads.push(b"0", b"A", Candidate::NONE);
     }
     let block = encode(&reference(), &reads, 0, 0).unwrap();
     assert_eq!(decode(&reference(), &block).unwrap().len(), MAX_READS);
-    reads.push(b"A", Candidate::NONE);
+    reads.push(b"0", b"A", Candidate::NONE);
     assert_eq!(encode(&reference(), &reads, 0, 0), Err(refused(30)));
     reads.clear();
     assert!(reads.is_empty() && reads.letters() == 0);
-    reads.push(&[b'A'; MAX_READ_LENGTH], Candidate::NONE);
+    reads.push(b"0", &[b'A'; MAX_READ_LENGTH], Candidate::NONE);
     assert!(encode(&reference(), &reads, 0, 0).is_ok());
-    reads.push(&[b'A'; MAX_READ_LENGTH + 1], Candidate::NONE);
+    reads.push(b"0", &[b'A'; MAX_READ_LENGTH + 1], Candidate::NONE);
     assert_eq!(encode(&reference(), &reads, 0, 0), Err(refused(32)));
     reads.clear();
-    reads.push(b"", Candidate::NONE);
+    reads.push(b"0", b"", Candidate::NONE);
     assert_eq!(encode(&reference(), &reads, 0, 0), Err(refused(32)));
 }
 
@@ -167,8 +222,8 @@ fn room_is_enough_for_any_block() {
                 }
                 let mut reads = Reads::new();
                 for _ in 0..9 {
-                    reads.push(&letters, Candidate::forward(0).clipped(clip, clip));
-                    reads.push(b"A", Candidate::NONE);
+                    reads.push(b"0", &letters, Candidate::forward(0).clipped(clip, clip));
+                    reads.push(b"0", b"A", Candidate::NONE);
                 }
                 let block = encode(&reference, &reads, 0, 0).unwrap();
                 assert!(block.len() <= reads.columns().room());
@@ -192,7 +247,7 @@ fn decoded_again() {
     assert_eq!(decoded.letters(), b"ACTTGATTACA");
 
     let mut reads = Reads::new();
-    reads.push(b"CAAC", Candidate::reverse(6));
+    reads.push(b"0", b"CAAC", Candidate::reverse(6));
     let shorter = encode(&reference(), &reads, 1, 0).unwrap();
     decoded.decode(&reference(), &shorter).unwrap();
     assert_eq!((decoded.letters(), decoded.ends()), (&b"CAAC"[..], &[4][..]));
@@ -263,6 +318,8 @@ fn threads() {
     both::<Decoded>();
     both::<Reads>();
     both::<Columns>();
+    both::<Buffers>();
+    both::<Names>();
     both::<Blocks>();
     both::<Block>();
     both::<Refusal>();

@@ -9,7 +9,8 @@ use second::mutators::{damage, spoil};
 use second::prng::Prng;
 use second::proposals::{random_call, spoil_call};
 
-const SHAPE: Shape = Shape { bases: 150, max_reads: 20, max_length: 60, max_carried: 5 };
+const SHAPE: Shape =
+    Shape { bases: 150, max_reads: 20, max_length: 60, max_carried: 5, max_name: 60 };
 
 fn refusal_of(outcome: second::Outcome) -> Refusal {
     Refusal { number: outcome.number as u64, block: outcome.block, read: outcome.read }
@@ -27,11 +28,21 @@ fn counts_in(outcome: second::Outcome) -> [u64; 4] {
 fn check_block(decoded: &mut Decoded, reference: &Reference, input: &[u8]) {
     let (bases, bytes) = (reference.bases(), reference.bytes());
     let (mut letters, mut ends) = (vec![0; 4000], vec![0; 40]);
-    let outcome = second::decode(bases, bytes, input, &mut letters, &mut ends);
+    let (mut names, mut name_ends) = (vec![0; 6000], vec![0; 40]);
+    let outcome =
+        second::decode(bases, bytes, input, &mut letters, &mut ends, &mut names, &mut name_ends);
     let (mut own_letters, mut own_ends) = (vec![0; 4000], vec![0; 40]);
-    let into = decode_into(reference, input, &mut own_letters, &mut own_ends);
+    let (mut own_names, mut own_name_ends) = (vec![0; 6000], vec![0; 40]);
+    let buffers = Buffers {
+        letters: &mut own_letters,
+        ends: &mut own_ends,
+        names: &mut own_names,
+        name_ends: &mut own_name_ends,
+    };
+    let into = decode_into(reference, input, buffers);
     let judged = validate_block(reference, input);
     assert_eq!((&own_letters, &own_ends), (&letters, &ends));
+    assert_eq!((&own_names, &own_name_ends), (&names, &name_ends));
     assert_eq!(into, judged);
     if outcome.number != 0 {
         assert_eq!(judged, Err(refusal_of(outcome)));
@@ -52,7 +63,21 @@ fn check_block(decoded: &mut Decoded, reference: &Reference, input: &[u8]) {
         let reads: Vec<&[u8]> = decoded.iter().collect();
         assert_eq!(reads.concat(), decoded.letters());
         assert!((0..reads.len()).all(|index| decoded.read(index) == Some(reads[index])));
+        assert_eq!(decoded.names().is_some(), has_names(input));
+        let Some(stored) = decoded.names() else { continue };
+        assert_eq!(stored.ends(), &name_ends[..outcome.reads as usize]);
+        assert!(names.starts_with(stored.bytes()) && stored.len() == decoded.len());
+        let each: Vec<&[u8]> = stored.iter().collect();
+        assert_eq!(each.concat(), stored.bytes());
+        assert!((0..each.len()).all(|index| stored.get(index) == Some(each[index])));
     }
+    let unnamed = without_names(input);
+    assert!(!has_names(&unnamed));
+    let without = decode(reference, &unnamed).unwrap();
+    assert_eq!(without.summary().length, unnamed.len());
+    assert_eq!(without.summary().counts, summary.counts);
+    assert_eq!((without.letters(), without.ends()), (decoded.letters(), decoded.ends()));
+    assert_eq!(without.names(), None);
 }
 
 fn check_boundary(input: &[u8]) {
@@ -60,6 +85,7 @@ fn check_boundary(input: &[u8]) {
         Ok(header) => {
             assert_eq!(block_length(input), Ok(header.block_length() as usize));
             assert_eq!(block_id(input), header.b_id);
+            assert_eq!(has_names(input), header.names_stored());
             for of in Section::ALL {
                 assert_eq!(section(input, of), header.section(input, of.number()));
             }
@@ -68,6 +94,7 @@ fn check_boundary(input: &[u8]) {
             let Refusal { number, block, read } = block_length(input).unwrap_err();
             assert_eq!((number, block, read), (refusal.number as u64, 0, 0));
             assert_eq!(block_id(input), 0);
+            assert!(!has_names(input) && without_names(input) == input);
             assert!(Section::ALL.iter().all(|&of| section_span(input, of) == (0..0)));
         }
     }
@@ -140,13 +167,15 @@ fn written_blocks() {
         let packed = generate_reference(&mut rng, bases);
         let mut call = random_call(&mut rng, &packed, 12, 300);
         if rng.once_in(3) {
-            let number = rng.range(31, 33) as u32;
+            let number = rng.pick(&[31, 32, 33, 41]);
             spoil_call(&mut call, number, 0, &mut rng);
         }
         let reference = Reference::new(packed.bases, &packed.bytes).unwrap();
         let columns = Columns {
             letters: &call.letters,
             ends: &call.ends,
+            names: &call.names,
+            name_ends: &call.name_ends,
             positions: &call.positions,
             strands: &call.strands,
             lefts: &call.lefts,
@@ -160,7 +189,13 @@ fn written_blocks() {
             Ok(length) => {
                 assert_eq!(length as u64, outcome.length);
                 assert!(length <= columns.room());
-                assert_eq!(decode(&reference, &own).unwrap().letters(), call.letters);
+                let decoded = decode(&reference, &own).unwrap();
+                assert_eq!(
+                    (decoded.letters(), decoded.ends()),
+                    (&call.letters[..], &call.ends[..])
+                );
+                let names = decoded.names().unwrap();
+                assert_eq!((names.bytes(), names.ends()), (&call.names[..], &call.name_ends[..]));
             }
             Err(refusal) => assert_eq!(refusal, refusal_of(outcome)),
         }

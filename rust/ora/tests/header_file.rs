@@ -1,7 +1,7 @@
 //! Property: `include/ora.h` has the refusals, sections and functions of this crate, with the same
 //! numbers, names and sentences. Catches: a number or name added in one place alone.
 
-use ora::{raw, RefusalKind, Section};
+use ora::{encode, has_names, raw, Reads, Reference, RefusalKind, Section};
 
 const HEADER: &str = include_str!("../../../include/ora.h");
 
@@ -49,8 +49,8 @@ fn refusals() {
     }
     assert_eq!(constants.next(), None);
     let numbers: Vec<u64> = RefusalKind::ALL.iter().map(|kind| kind.number()).collect();
-    assert_eq!(numbers, (1..=22).chain(30..=34).collect::<Vec<_>>());
-    for number in [0, 23, 29, 35, u64::MAX] {
+    assert_eq!(numbers, (1..=22).chain(30..=34).chain(40..=41).collect::<Vec<_>>());
+    for number in [0, 23, 29, 35, 39, 42, u64::MAX] {
         assert_eq!(RefusalKind::from_number(number), None);
     }
 }
@@ -62,6 +62,26 @@ fn sections() {
     for ((name, number, _), section) in constants.into_iter().zip(Section::ALL) {
         assert_eq!(name, constant_name("ORA_SECTION", &format!("{section:?}")));
         assert_eq!(number, section.number());
+    }
+}
+
+/// The flag that tells whether names are read is the one of `has_names`.
+#[test]
+fn names_flag() {
+    let constant = |name: &str| {
+        let line = HEADER.lines().find_map(|line| line.strip_prefix(&format!("#define {name} ")));
+        line.unwrap().to_string()
+    };
+    let offset: usize = constant("ORA_FLAGS_OFFSET").parse().unwrap();
+    let flag = constant("ORA_FLAG_NAMES");
+    let flag = u8::from_str_radix(flag.trim_start_matches("0x"), 16).unwrap();
+    let reference = Reference::new(0, &[]).unwrap();
+    let block = encode(&reference, &Reads::new(), 0, 0).unwrap();
+    for set in 0..8 {
+        let mut block = block.clone();
+        block[offset] = 1 << set;
+        // 0x40 and 0x80 are refused.
+        assert_eq!(has_names(&block), 1 << set == flag && set < 6);
     }
 }
 

@@ -69,7 +69,7 @@ fn the_listed_block() {
 fn lengths() {
     let mut reads = Reads::new();
     for length in [5, 5, 300] {
-        reads.push(&vec![b'C'; length], Candidate::NONE);
+        reads.push(b"0", &vec![b'C'; length], Candidate::NONE);
     }
     let block = encode(&reference(), &reads, 1, 2).unwrap();
     assert_eq!(section(&block, Section::Size), [0x40, 0x80, 5, 0x2C, 1]);
@@ -79,8 +79,8 @@ fn lengths() {
         [(256, &[0, 1][..]), (32_768, &[0, 0x80, 0, 0]), (65_535, &[0, 0x80, 0xFF, 0x7F])]
     {
         reads.clear();
-        reads.push(b"C", Candidate::NONE);
-        reads.push(&vec![b'C'; length], Candidate::NONE);
+        reads.push(b"0", b"C", Candidate::NONE);
+        reads.push(b"0", &vec![b'C'; length], Candidate::NONE);
         let block = encode(&reference(), &reads, 1, 2).unwrap();
         assert_eq!(section(&block, Section::Size), [&[0, 0x80, 1], words].concat());
     }
@@ -96,7 +96,7 @@ fn entries_of_a_lone_difference() {
         let mut letters = b"ACGT".repeat(500);
         letters[place] = if letters[place] == b'A' { b'C' } else { b'A' };
         let mut reads = Reads::new();
-        reads.push(&letters, Candidate::forward(0));
+        reads.push(b"0", &letters, Candidate::forward(0));
         let block = encode(&reference, &reads, 0, 0).unwrap();
         let decoded = decode(&reference, &block).unwrap();
         assert_eq!(decoded.letters(), letters);
@@ -105,17 +105,27 @@ fn entries_of_a_lone_difference() {
     }
 }
 
-/// The block of docs/FORMAT.md with one read, b_id 7 and c_time 9.
+/// A block with one read, b_id 7 and c_time 9, without its name and with it.
 #[test]
 fn a_written_block() {
     let mut reads = Reads::new();
-    reads.push(b"ACTT", Candidate::forward(0));
-    let block = encode(&reference(), &reads, 7, 9).unwrap();
+    reads.push(b"run7:8", b"ACTT", Candidate::forward(0));
+    let named = encode(&reference(), &reads, 7, 9).unwrap();
+    let block = without_names(&named);
     assert_eq!(block.len(), 130);
     assert_eq!(block[..6], [0x49, 0x7C, 121, 0, 0, 0]);
     assert_eq!(block[42..58], [5, 0, 0, 0, 4, 0, 0, 0, 1, 0, 0, 0, 0x19, 0x50, 7, 0]);
     assert_eq!((block[64], block[73], block[89]), (40, 4, 9));
     assert_eq!(block[121..], [0, 0x80, 0, 0x80, 0x0C, 0, 0, 0x0B, 0]);
+
+    // Four tokens: two of strings, and two numbers with no step.
+    let front = [4, 0, 0, 0, 0, 4, 0, 4];
+    let sizes = [4u64, 8, 2, 8].map(u64::to_le_bytes).concat();
+    let sets = [&b"run\0"[..], &7i64.to_le_bytes(), b":\0", &8i64.to_le_bytes()].concat();
+    let names = [&front[..], &sizes, &sets].concat();
+    assert_eq!(section(&named, Section::Names), names);
+    assert_eq!((named[10], named[42]), (names.len() as u8, 9));
+    assert_eq!(named[121..], [&block[121..129], &names, &[0]].concat());
 }
 
 /// Each candidate of docs/FORMAT.md, with its group bytes and record.
@@ -123,7 +133,7 @@ fn a_written_block() {
 fn candidates() {
     let dna = |letters: &[u8], candidate| {
         let mut reads = Reads::new();
-        reads.push(letters, candidate);
+        reads.push(b"0", letters, candidate);
         let block = encode(&reference(), &reads, 7, 9).unwrap();
         assert_eq!(decode(&reference(), &block).unwrap().letters(), letters);
         section(&block, Section::Dna).to_vec()

@@ -1,5 +1,5 @@
 //! The decoder that trusts its block: one pass and no check. It counts differences by looking at a
-//! letter before it is replaced.
+//! letter before it is replaced. Names are not read.
 use super::{take_word, Counts, Group, Tables, WORD_ESCAPE};
 use second::header::{Header, DNA, SIZE};
 

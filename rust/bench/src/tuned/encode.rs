@@ -1,7 +1,8 @@
 //! The encoder: letters are checked sixteen at once, then all is written in one pass. Nothing is
 //! counted before, so the caller has room for any block. Differences are found by comparing eight
-//! letters with two words of a table.
+//! letters with two words of a table. Names are written by the plain code.
 use super::{Tables, WORD_ESCAPE};
+use crate::names::plain;
 use ora::Columns;
 
 const HEADER_BYTES: usize = 121;
@@ -227,11 +228,11 @@ unsafe fn put_sizes(at: &mut *mut u8, ends: &[u32]) {
     }
 }
 
-/// The header: the lengths of the three sections, and the length of each read where all are equal,
+/// The header: the lengths of the four sections, and the length of each read where all are equal,
 /// else 0.
 unsafe fn put_header(
     out: *mut u8,
-    sections: [usize; 3],
+    sections: [usize; 4],
     each: u32,
     columns: &Columns,
     b_id: u64,
@@ -241,10 +242,10 @@ unsafe fn put_header(
     std::ptr::write_bytes(out, 0, HEADER_BYTES);
     (out as *mut [u8; 2]).write([0x49, 0x7C]);
     put_u32(2, HEADER_BYTES as u32);
-    for (at, length) in [6, 22, 26].into_iter().zip(sections) {
+    for (at, length) in [6, 10, 22, 26].into_iter().zip(sections) {
         put_u32(at, length as u32);
     }
-    put_u32(42, 4 | (each > 0) as u32);
+    put_u32(42, 8 | (each > 0) as u32);
     put_u32(46, each);
     put_u32(50, columns.ends.len() as u32);
     (out.add(54) as *mut u16).write_unaligned(20505);
@@ -276,7 +277,8 @@ fn common_length(ends: &[u32]) -> u32 {
     each * equal as u32
 }
 
-/// Writes the block of these reads, and answers its length; 0 where letters or ends are refused.
+/// Writes the block of these reads, and answers its length; 0 where letters, ends or names are
+/// refused.
 #[inline(never)]
 pub unsafe fn encode(
     bases: u64,
@@ -287,7 +289,8 @@ pub unsafe fn encode(
     tables: &Tables,
     out: *mut u8,
 ) -> usize {
-    if !is_valid(columns) {
+    let mut names: Vec<u8> = Vec::with_capacity(4 * columns.names.len());
+    if !is_valid(columns) || plain::write(columns.names, columns.name_ends, &mut names).is_none() {
         return 0;
     }
     let reads = columns.ends.len();
@@ -373,13 +376,17 @@ pub unsafe fn encode(
         }
         from = to;
     }
+    let names_at = at;
+    std::ptr::copy_nonoverlapping(names.as_ptr(), at, names.len());
+    at = at.add(names.len());
     let sizes = at;
     let each = common_length(columns.ends);
     if each == 0 {
         put_sizes(&mut at, columns.ends);
     }
-    let lengths = [sizes.offset_from(dna), at.offset_from(sizes), n_section.len() as isize];
+    let dna_length = names_at.offset_from(dna) as usize;
+    let lengths = [dna_length, names.len(), at.offset_from(sizes) as usize, n_section.len()];
     std::ptr::copy_nonoverlapping(n_section.as_ptr(), at, n_section.len());
-    put_header(out, lengths.map(|length| length as usize), each, columns, b_id, c_time);
+    put_header(out, lengths, each, columns, b_id, c_time);
     at.offset_from(out) as usize + n_section.len()
 }

@@ -1,7 +1,9 @@
 //! The validator: one pass with pointers and every check of a block whose header is sound. It says
-//! only whether a block is accepted, not with which number it is refused.
+//! only whether a block is accepted, not with which number it is refused. Names are judged by the
+//! plain code.
 use super::{take_word, Counts, Group, MAX_READ_LENGTH, WORD_ESCAPE};
-use second::header::{Header, DNA, N, SIZE};
+use crate::names::plain;
+use second::header::{Header, DNA, N, NAMES, SIZE};
 
 /// The bytes of a section that are left.
 struct Part {
@@ -277,7 +279,11 @@ unsafe fn run<const DIFFERENCES: bool>(
         letters += length as u64;
         group.shift();
     }
-    let all = dna.at == dna.end && lengths.all_taken() && letters == header.dna_raw_size;
+    let names = || plain::judge(header.section(block, NAMES), reads);
+    let all = dna.at == dna.end
+        && lengths.all_taken()
+        && letters == header.dna_raw_size
+        && (!header.names_stored() || names());
     all.then_some([header.reads, letters, entry_sum, difference_sum])
 }
 

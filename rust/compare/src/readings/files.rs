@@ -4,11 +4,12 @@ use super::{reading, small_shape};
 use crate::case::{bytes, Work};
 use crate::stock::Stock;
 use second::generator::{generate_reference, generate_under, Plan, ReferencePlan, Shape};
-use second::mutators::{damage, spoil};
+use second::mutators::{damage, spoil, BLOCK_NUMBERS};
 use second::prng::Prng;
 
 fn drawn_file(rng: &mut Prng) -> (ReferencePlan, Vec<Plan>) {
-    let shape = Shape { max_reads: 9, max_length: rng.pick(&[4, 24, 40]), ..small_shape(rng) };
+    let max_length = rng.pick(&[4, 24, 40]);
+    let shape = Shape { max_reads: 9, max_length, max_name: 30, ..small_shape(rng) };
     let reference = generate_reference(rng, shape.bases);
     let count = rng.pick(&[0, 0, 1, 1, 2, 2, 2, 2, 3, 3, 4, 4, 30]);
     let plans = (0..count).map(|_| generate_under(rng, shape, &reference)).collect();
@@ -32,7 +33,7 @@ pub fn file_with_fault(rng: &mut Prng, _: &Stock) -> Work {
             continue;
         }
         let which = rng.below(plans.len() as u64) as usize;
-        let number = rng.range(1, 21) as u32;
+        let number = rng.pick(&BLOCK_NUMBERS);
         if spoil(&mut plans[which], number, rng).is_none() {
             continue;
         }

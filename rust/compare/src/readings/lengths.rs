@@ -5,7 +5,7 @@ use crate::case::{bytes, Work};
 use crate::stock::Stock;
 use second::cases_by_hand::Hand;
 use second::generator::{generate_reference, generate_with_lengths, Shape};
-use second::mutators::spoil;
+use second::mutators::{spoil, BLOCK_NUMBERS};
 use second::prng::Prng;
 
 /// Words around 32768, and around what makes 100,000 with three of them.
@@ -53,10 +53,10 @@ pub fn long_reads(rng: &mut Prng, stock: &Stock) -> Work {
         lengths.extend(vec![rng.range(1, 40); rng.below(3) as usize]);
     }
     let max_carried = rng.pick(&[0, 2, 70_000]);
-    let shape = Shape { bases: 0, max_reads: 0, max_length: 0, max_carried };
+    let shape = Shape { bases: 0, max_reads: 0, max_length: 0, max_carried, max_name: 255 };
     let mut plan = generate_with_lengths(rng, shape, &stock.long, lengths);
     if rng.once_in(3) {
-        let number = rng.pick(&[9, 10, 12, 12, 15, 17, 19, 20, 20, 20, 21]);
+        let number = rng.pick(&[9, 10, 12, 12, 15, 17, 19, 20, 20, 20, 21, 40]);
         spoil(&mut plan, number, rng);
     }
     let input = plan.block();
@@ -69,10 +69,11 @@ pub fn many_reads(rng: &mut Prng, _: &Stock) -> Work {
     let reference = generate_reference(rng, 100);
     let equal = rng.coin().then(|| rng.range(1, 9));
     let lengths = (0..reads).map(|_| equal.unwrap_or_else(|| rng.range(1, 9))).collect();
-    let shape = Shape { bases: 0, max_reads: 0, max_length: 0, max_carried: 2 };
+    let max_name = rng.pick(&[8, 16, 40]);
+    let shape = Shape { bases: 0, max_reads: 0, max_length: 0, max_carried: 2, max_name };
     let mut plan = generate_with_lengths(rng, shape, &reference, lengths);
     if rng.coin() {
-        let number = rng.range(9, 21) as u32;
+        let number = rng.pick(&BLOCK_NUMBERS[8..]);
         spoil(&mut plan, number, rng);
     }
     of_plan(rng, &plan)
