@@ -1,7 +1,7 @@
 #!/bin/bash
 # pipeline.sh: reads of a simulator (wgsim) from a simulated genome of 5 million bases, mapped by bwa mem and by
-# minimap2, encoded, validated and decoded: the letters of every primary record are those that the simulator wrote.
-# It prints how the reads are stored, and bits a base.
+# minimap2, encoded, validated and decoded: the letters of every primary record are those that the simulator wrote, and
+# its name is that of the record. It prints how the reads are stored, and bits a base without names and with them.
 # pipeline.sh bench: speed and memory of the tool on 2,000,000 reads, as ratios in one run, beside samtools. On a machine
 # that others use too, BENCH_WITH='chrt -f 1' lets what is timed go first.
 # Exit status: 0 all is as it should be; 1 something is not; 2 a command is missing, which is named with its package.
@@ -71,13 +71,30 @@ simulate_genome() {
     END { end_sequence() }' genome.fa > sample.fa
 }
 
-# simulate_reads PAIRS: r1.fq and r2.fq, with variants and errors as short reads have them.
+# simulate_reads PAIRS: r1.fq and r2.fq, with variants and errors as short reads have them. The simulator counts pairs
+# in hexadecimal, of which a block cannot hold names; they get names as a sequencer gives them: lane, tile and place.
 simulate_reads() {
   quietly wgsim -S 11 -N "$1" -e 0.002 -r 0.001 -R 0.15 -1 150 -2 126 sample.fa r1.fq r2.fq > variants.txt
+  local mate
+  for mate in 1 2; do
+    awk -v mate="$mate" '
+      function draw(bound) { state = state * 16807 % 2147483647; return state % bound }
+      BEGIN { state = 20505 }
+      NR % 4 == 1 {
+        pair = (NR - 1) / 4
+        tile = int(pair / 5000)
+        x = 1000 + draw(31000)
+        y = 1000 + pair % 5000 * 6 + draw(6)
+        $0 = "@SIM00042:7:HXYWDSX2:" (1 + int(tile / 78)) ":" (1101 + tile % 78) ":" x ":" y "/" mate
+      }
+      { print }' "r$mate.fq" > named.fq
+    mv named.fq "r$mate.fq"
+  done
 }
 
-# compare_letters READS.sam READS.txt: line k of the text is the read of primary record k, and each read is there once.
-compare_letters() {
+# compare_reads READS.sam READS.txt: line k of the text is the name and the read of primary record k, and each read is
+# there once.
+compare_reads() {
   samtools view -F 0x900 "$1" | cut -f 1,2 | paste - "$2" | awk -F '\t' '
     FILENAME != "-" {
       if (FNR % 4 == 1) {
@@ -90,7 +107,8 @@ compare_letters() {
     }
     {
       name = $1 (int($2 / 128) % 2 ? 2 : 1)
-      if (letters[name] != $3) { print "pipeline: read " name " is " $3 > "/dev/stderr"; wrong++ }
+      if ($3 != $1) { print "pipeline: read " $1 " is named " $3 > "/dev/stderr"; wrong++ }
+      if (letters[name] != $4) { print "pipeline: read " name " is " $4 > "/dev/stderr"; wrong++ }
       letters[name] = "taken"
       records++
     }
@@ -107,19 +125,28 @@ counted() {
   awk -v words="$1" '{ count = $1; $1 = "" } substr($0, 2) == words { print count; exit }' summary
 }
 
+# bits SUMMARY: the bits a base that it tells.
+bits() {
+  sed -n '1s/.* \([0-9.]*\) bits a base$/\1/p' "$1"
+}
+
 # run_mapper NAME: NAME.sam, encoded, validated, decoded and compared.
 run_mapper() {
   "$frubanto" encode --kinds -r genome.ref -o "$1.ora" "$1.sam" 2> summary || { cat summary >&2; fail "encode failed"; }
   "$frubanto" validate -r genome.ref "$1.ora" > verdict || { cat verdict >&2; fail "validate failed"; }
-  "$frubanto" decode -r genome.ref "$1.ora" > "$1.txt" || fail "decode failed"
-  compare_letters "$1.sam" "$1.txt" || fail "the letters of $1 are not those of the simulator"
+  "$frubanto" decode --names -r genome.ref "$1.ora" > "$1.txt" || fail "decode failed"
+  compare_reads "$1.sam" "$1.txt" || fail "the reads of $1 are not those of the simulator"
+  "$frubanto" decode --fasta -r genome.ref "$1.ora" | cmp - <(awk '{ print ">" $1 "\n" $2 }' "$1.txt") \
+    || fail "FASTA has other names or letters"
   samtools view -h "$1.sam" | "$frubanto" encode --threads 1 --c-time 7 -r genome.ref -o - 2>/dev/null > one.ora
   "$frubanto" encode --c-time 7 -r genome.ref -o all.ora "$1.sam" 2>/dev/null
   cmp one.ora all.ora || fail "one thread and all of them differ"
-  printf '%-9s %8s %9s %8s %7s %7s %7s %14s %12s\n' "$1" "$(counted reads)" "$(counted 'stored perfect')" \
+  "$frubanto" encode --no-names -r genome.ref -o unnamed.ora "$1.sam" 2> unnamed
+  cmp <(cut -f 2 "$1.txt") <("$frubanto" decode -r genome.ref unnamed.ora) || fail "without names the letters differ"
+  printf '%-9s %8s %9s %8s %7s %7s %7s %14s %12s %11s\n' "$1" "$(counted reads)" "$(counted 'stored perfect')" \
     "$(counted 'stored global')" "$(counted 'stored local')" "$(counted 'stored raw')" \
     "$(counted 'without a place: gaps or splices')" "$(counted 'left out: supplementary')" \
-    "$(sed -n '1s/.* \([0-9.]*\) bits a base$/\1/p' summary)"
+    "$(bits unnamed)" "$(bits summary)"
 }
 
 pipeline() {
@@ -132,11 +159,11 @@ pipeline() {
   quietly bwa index genome.fa
   quietly bwa mem genome.fa r1.fq r2.fq > bwa.sam
   quietly minimap2 -a -x sr genome.fa r1.fq r2.fq > minimap2.sam
-  printf '%-9s %8s %9s %8s %7s %7s %7s %14s %12s\n' \
-    mapper reads perfect global local raw gapped supplementary 'bits a base'
+  printf '%-9s %8s %9s %8s %7s %7s %7s %14s %12s %11s\n' \
+    mapper reads perfect global local raw gapped supplementary 'bits a base' 'with names'
   run_mapper bwa
   run_mapper minimap2
-  echo "the letters of every primary record are those of the simulator"
+  echo "names and letters of every primary record are those of the simulator"
 }
 
 # seconds COMMAND...: how long it takes, its output going nowhere.

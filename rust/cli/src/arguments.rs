@@ -80,6 +80,9 @@ pub struct EncodeArguments {
     /// Leave out reads of more than 100,000 letters, instead of failing
     #[arg(long)]
     pub skip_long: bool,
+    /// Store no names
+    #[arg(long)]
+    pub no_names: bool,
     /// Also count how many reads are stored perfect, global, local and raw; this takes longer, as
     /// the library is asked about each read
     #[arg(long)]
@@ -90,9 +93,9 @@ pub struct EncodeArguments {
 
 const ENCODE: &str = "\
 Each primary record is a read, both reads of a pair too. It is stored as it was printed: SEQ, turned
-back where flag 0x10 is set. Names, qualities and tags are not stored. The record's place is
-proposed to the library, which uses it where the format can say it; otherwise the letters are stored
-as they are. Either way they can all be read back.
+back where flag 0x10 is set, with its name (QNAME). Qualities and tags are not stored. The record's
+place is proposed to the library, which uses it where the format can say it; otherwise the letters
+are stored as they are. Either way they can all be read back.
 
   no place      unmapped reads; records without a sequence, position or CIGAR; gaps and splices
                 (I, D, N, P); more than 255 letters clipped at one end; a place past the end of
@@ -101,6 +104,9 @@ as they are. Either way they can all be read back.
   left out      secondary and supplementary records; records without letters (SEQ *)
   letters       small ones are stored as capitals, U as T, and any other than A, C, G, T, N
                 (the IUPAC codes) and the dot as N
+  names         are stored as they are where each name of a block has 1 to 255 bytes of printable
+                ASCII and all are made of equally many stretches of digits and of others; otherwise
+                the block is written without names, and standard error says why
   a failure     a malformed line; a sequence that the reference has not, or has with another
                 length; a read of more than 100,000 letters; = or any other sign in SEQ
 
@@ -120,9 +126,12 @@ pub struct DecodeArguments {
     /// The file of blocks; - for standard input
     #[arg(value_name = "BLOCKS")]
     pub blocks: PathBuf,
-    /// As FASTA; a read is named after its block and its index in it, which count from 0: >3.17
+    /// As FASTA, with the names
     #[arg(long)]
     pub fasta: bool,
+    /// The name of each read and a tab before its letters; FASTA has the names without it
+    #[arg(long)]
+    pub names: bool,
     /// Where the letters go
     #[arg(short, long, value_name = "FILE", default_value = "-")]
     pub output: PathBuf,
@@ -131,10 +140,12 @@ pub struct DecodeArguments {
 }
 
 const DECODE: &str = "\
-All blocks before the first that is refused are printed, and nothing of that one.
+All blocks before the first that is refused are printed, and nothing of that one. In a block without
+names a read is named after the index of its block and its own in it, which count from 0: 3.17
 
 Example:
   frubanto decode -r genome.ref reads.ora > reads.txt
+  frubanto decode -r genome.ref --names reads.ora | cut -f 1 > names.txt
   frubanto decode -r genome.ref --fasta -o reads.fa reads.ora";
 
 /// Lists a file of blocks: a line with the counts of each block, and its reads
@@ -151,8 +162,8 @@ pub struct ListArguments {
 }
 
 const LIST: &str = "\
-The text is that of the listing program. The last line is `end blocks` and their number, or
-`refused`, the number of the refusal, and the index of the block and of the read.
+The text is that of the listing program, without names. The last line is `end blocks` and their
+number, or `refused`, the number of the refusal, and the index of the block and of the read.
 
 Example:
   frubanto list -r genome.ref reads.ora";

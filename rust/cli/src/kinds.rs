@@ -21,7 +21,7 @@ impl Kinds {
         self.raw += other.raw;
     }
 
-    /// The kinds of these reads.
+    /// The kinds of these reads; their names make no difference.
     pub fn of(reference: &Reference, reads: &Reads) -> Result<Kinds, Refusal> {
         let (mut kinds, mut start) = (Kinds::default(), 0);
         let all = reads.columns();
@@ -29,6 +29,8 @@ impl Kinds {
             let one = Columns {
                 letters: &all.letters[start..end as usize],
                 ends: &[end - start as u32],
+                names: b"0",
+                name_ends: &[1],
                 positions: &all.positions[read..read + 1],
                 strands: &all.strands[read..read + 1],
                 lefts: &all.lefts[read..read + 1],
@@ -79,16 +81,17 @@ mod tests {
         // ACGTACGTTGCA
         let reference = Reference::new(12, &[0x1B, 0x1B, 0xE4]).unwrap();
         let mut reads = Reads::new();
-        reads.push(b"ACGT", Candidate::forward(4));
-        reads.push(b"CAAC", Candidate::reverse(6));
-        reads.push(b"ANGN", Candidate::forward(0));
-        reads.push(b"ACTT", Candidate::forward(0));
-        reads.push(b"TACGA", Candidate::forward(0).clipped(1, 1));
-        reads.push(b"TAACN", Candidate::reverse(6).clipped(1, 1));
-        reads.push(b"ACGT", Candidate::NONE);
-        reads.push(b"ACGT", Candidate::forward(9));
-        reads.push(b"ACGT", Candidate::forward(4).clipped(2, 2));
-        reads.push(&[b'N'; 32], Candidate::NONE);
+        let mut push = |letters: &[u8], candidate| reads.push(b"", letters, candidate);
+        push(b"ACGT", Candidate::forward(4));
+        push(b"CAAC", Candidate::reverse(6));
+        push(b"ANGN", Candidate::forward(0));
+        push(b"ACTT", Candidate::forward(0));
+        push(b"TACGA", Candidate::forward(0).clipped(1, 1));
+        push(b"TAACN", Candidate::reverse(6).clipped(1, 1));
+        push(b"ACGT", Candidate::NONE);
+        push(b"ACGT", Candidate::forward(9));
+        push(b"ACGT", Candidate::forward(4).clipped(2, 2));
+        push(&[b'N'; 32], Candidate::NONE);
         let kinds = Kinds::of(&reference, &reads).unwrap();
         assert_eq!(kinds, Kinds { perfect: 3, global: 1, local: 2, raw: 4 });
     }

@@ -15,6 +15,7 @@ mod header;
 mod input;
 mod kinds;
 mod letters;
+mod names;
 mod output;
 mod progress;
 mod sam;

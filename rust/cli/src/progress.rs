@@ -26,6 +26,11 @@ impl Progress {
         }
     }
 
+    /// Writes to standard error without disturbing the line.
+    pub fn say(&self, text: &str) {
+        self.0.suspend(|| crate::say(text));
+    }
+
     /// So many bytes more are done with.
     pub fn advance(&self, bytes: u64) {
         self.0.inc(bytes);

@@ -5,7 +5,7 @@ use crate::failure::Failure;
 use crate::input::Text;
 use crate::letters::{self, Changed};
 use crate::sequences::{number, Place, Sequences};
-use ora::{Candidate, Reads, Strand, MAX_READ_LENGTH};
+use ora::{Candidate, Reads, Strand, MAX_NAME_LENGTH, MAX_READ_LENGTH};
 use std::io::{BufRead, Read};
 
 /// The read's SEQ is that of the other strand.
@@ -65,7 +65,7 @@ impl Tally {
 #[derive(Default)]
 pub struct Batch {
     records: Vec<Record>,
-    // CIGAR and SEQ of each record.
+    // QNAME, where names are stored, CIGAR and SEQ of each record.
     text: Vec<u8>,
     letters: usize,
     /// Bytes of the file that it was read from.
@@ -76,6 +76,7 @@ struct Record {
     line: u64,
     reverse: bool,
     location: Location,
+    name_end: usize,
     cigar_end: usize,
     seq_end: usize,
 }
@@ -96,6 +97,17 @@ impl Batch {
     pub fn bytes(&self) -> u64 {
         (4 * self.text.len() + 300 * self.records.len()) as u64
     }
+
+    /// The names of its reads, in order.
+    pub fn names(&self) -> impl Iterator<Item = &[u8]> {
+        let starts = std::iter::once(0).chain(self.records.iter().map(|record| record.seq_end));
+        starts.zip(&self.records).map(|(start, record)| &self.text[start..record.name_end])
+    }
+
+    /// The line of the file on which this read stands.
+    pub fn line_of(&self, read: usize) -> u64 {
+        self.records[read].line
+    }
 }
 
 /// A SAM text that is being read.
@@ -105,6 +117,8 @@ pub struct SamReader<'a> {
     reads_of_block: usize,
     // Reads that are too long for the format are left out; otherwise they are a failure.
     skip_long: bool,
+    // Names are stored.
+    names: bool,
     line: Vec<u8>,
     line_number: u64,
     // The last sequence that was looked up.
@@ -118,12 +132,14 @@ impl<'a> SamReader<'a> {
         sequences: &'a Sequences,
         reads_of_block: usize,
         skip_long: bool,
+        names: bool,
     ) -> SamReader<'a> {
         SamReader {
             text,
             sequences,
             reads_of_block,
             skip_long,
+            names,
             line: Vec::new(),
             line_number: 0,
             last: None,
@@ -194,7 +210,7 @@ impl<'a> SamReader<'a> {
 
     /// Adds a record to the batch, if it is a read.
     fn read_record(&mut self, line: &[u8], batch: &mut Batch) -> Result<(), Failure> {
-        let Some([_, flag, name, position, _, cigar, _, _, _, seq, _]) = fields(line) else {
+        let Some([name, flag, sequence, position, _, cigar, _, _, _, seq, _]) = fields(line) else {
             return Err(self.wrong("a SAM record has 11 fields or more, with tabs between them"));
         };
         self.tally.records += 1;
@@ -219,13 +235,18 @@ impl<'a> SamReader<'a> {
         if seq.len() > MAX_READ_LENGTH {
             return self.leave_out_long(seq.len());
         }
-        let location = self.location(flag, name, position, cigar)?;
+        let location = self.location(flag, sequence, position, cigar)?;
+        if self.names {
+            // Of a name that is too long as much as shows that.
+            batch.text.extend_from_slice(&name[..name.len().min(MAX_NAME_LENGTH + 1)]);
+        }
+        let name_end = batch.text.len();
         batch.text.extend_from_slice(cigar);
         let cigar_end = batch.text.len();
         batch.text.extend_from_slice(seq);
         batch.letters += seq.len();
         let (line, reverse, seq_end) = (self.line_number, flag & REVERSE != 0, batch.text.len());
-        batch.records.push(Record { line, reverse, location, cigar_end, seq_end });
+        batch.records.push(Record { line, reverse, location, name_end, cigar_end, seq_end });
         Ok(())
     }
 
@@ -317,7 +338,8 @@ fn fields(line: &[u8]) -> Option<[&[u8]; 11]> {
     Some(fields)
 }
 
-/// Makes reads of the records of a batch: the letters as they were printed, and the places.
+/// Makes reads of the records of a batch: the names, the letters as they were printed, and the
+/// places.
 pub fn make_reads(
     batch: &Batch,
     file: &str,
@@ -327,7 +349,8 @@ pub fn make_reads(
     let (mut letters, mut start) = (Vec::new(), 0);
     for record in &batch.records {
         let wrong = |what: String| Failure::at_line(file, record.line, what);
-        let cigar = &batch.text[start..record.cigar_end];
+        let name = &batch.text[start..record.name_end];
+        let cigar = &batch.text[record.name_end..record.cigar_end];
         let seq = &batch.text[record.cigar_end..record.seq_end];
         start = record.seq_end;
         letters::store(seq, &mut letters, &mut tally.changed).map_err(|byte| {
@@ -337,7 +360,7 @@ pub fn make_reads(
             letters::turn(&mut letters);
         }
         let candidate = propose(record, cigar, seq.len(), tally).map_err(wrong)?;
-        reads.push(&letters, candidate);
+        reads.push(name, &letters, candidate);
     }
     Ok(())
 }

@@ -154,10 +154,11 @@ impl Simulated {
         let reference = self.folder.read("genome.ref");
         let reference = Reference::from_file(&reference).unwrap();
         let mut file = Vec::new();
-        for (index, chunk) in (0..).zip(self.reads.chunks(reads_per_block)) {
+        let named: Vec<_> = self.reads.iter().enumerate().collect();
+        for (index, chunk) in (0..).zip(named.chunks(reads_per_block)) {
             let mut reads = Reads::new();
-            for (letters, candidate) in chunk {
-                reads.push(letters, *candidate);
+            for (number, (letters, candidate)) in chunk {
+                reads.push(format!("r{number}").as_bytes(), letters, *candidate);
             }
             file.extend(ora::encode(&reference, &reads, b_id + index, c_time).unwrap());
         }

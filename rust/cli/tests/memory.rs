@@ -34,18 +34,18 @@ fn memory_does_not_grow_with_the_file() {
     let folder = Folder::new("memory_of_files");
     let mut generated = Generated::new(41, 50);
     for plan in &mut generated.plans {
-        plan.carried[0] = vec![7; 40_000];
+        plan.carried[1] = vec![7; 40_000];
     }
     let reference = folder.write("ref", generated.reference_file());
     let some = generated.file().repeat(5);
     let one = folder.write("one.ora", &some);
     let tenfold = folder.write("tenfold.ora", some.repeat(10));
-    for command in ["validate", "decode", "list"] {
+    for words in [&["validate"][..], &["decode"], &["decode", "--fasta"], &["list"]] {
         for threads in ["1", "2"] {
-            let of = |file: &str| peak(&[command, "--threads", threads, "-r", &reference, file]);
-            let (one, ten) = (of(&one), of(&tenfold));
+            let with = |file| [words, &["--threads", threads, "-r", &reference, file]].concat();
+            let (one, ten) = (peak(&with(&one)), peak(&with(&tenfold)));
             // Of the file 4 MiB are mapped, and what is read ahead.
-            assert!(ten < one + (8 << 10), "{command}, {threads} threads: {one} and {ten} KiB");
+            assert!(ten < one + (8 << 10), "{words:?}, {threads} threads: {one} and {ten} KiB");
         }
     }
 }
@@ -56,7 +56,7 @@ fn large_blocks_are_given_back() {
     let bytes = [0; 25_000];
     let mut reads = Reads::new();
     for _ in 0..600 {
-        reads.push(&[b'A'; 100_000], Candidate::forward(0));
+        reads.push(b"r", &[b'A'; 100_000], Candidate::forward(0));
     }
     let block = ora::encode(&Reference::new(100_000, &bytes).unwrap(), &reads, 0, 0).unwrap();
     let reference = folder.write("ref", reference_file(100_000, &bytes));

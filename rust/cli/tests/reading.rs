@@ -1,6 +1,6 @@
 //! Property: decode, list, validate and blocks print what the blocks hold, up to the first that is
-//! refused, and say which that is and why. Catches: blocks out of order, a refused block that is
-//! printed or hides those before it, an index or offset that is off, a wrong status.
+//! refused, and say which that is and why. Catches: blocks or names out of order, a refused block
+//! that is printed or hides those before it, an index or offset that is off, a wrong status.
 
 mod common;
 use common::*;
@@ -19,6 +19,8 @@ fn the_sample_block() {
     assert_eq!(run(&["decode", "-r", &reference, &blocks]).accepted().text(), "ACTT\n");
     let fasta = run(&["decode", "-r", &reference, "--fasta", &blocks]).accepted();
     assert_eq!(fasta.text(), ">0.0\nACTT\n");
+    let named = run(&["decode", "-r", &reference, "--names", &blocks]).accepted();
+    assert_eq!(named.text(), "0.0\tACTT\n");
     let validated = run(&["validate", "-r", &reference, &blocks]).accepted();
     let counts = "blocks 1, reads 1, letters 4, entries 1, differences 1";
     assert_eq!(validated.text(), format!("{blocks}: accepted, {counts}\n"));
@@ -72,19 +74,15 @@ fn files_of_generated_blocks() {
             let lines = generated.lines(plans.len());
             assert_eq!(with(&["decode"]).text(), lines);
             assert_eq!(with(&["list"]).text(), listing(&generated.reference_file(), &file));
-            let fasta = with(&["decode", "--fasta"]);
-            let letters: Vec<&str> =
-                fasta.text().lines().filter(|line| !line.starts_with('>')).collect();
-            assert_eq!(letters, lines.lines().collect::<Vec<_>>());
-            let names: Vec<&str> =
-                fasta.text().lines().filter_map(|line| line.strip_prefix('>')).collect();
-            let expected: Vec<String> = (0..)
-                .zip(plans)
-                .flat_map(|(block, plan)| {
-                    (0..plan.expected.ends.len()).map(move |read| format!("{block}.{read}"))
-                })
-                .collect();
-            assert_eq!(names, expected);
+            let (reads, names) = (generated.reads(plans.len()), generated.names(plans.len()));
+            let printed = |before: &str, between: &str| {
+                let reads = names.iter().zip(&reads);
+                reads.map(|(name, read)| format!("{before}{name}{between}{read}\n")).collect()
+            };
+            let (fasta, table): (String, String) = (printed(">", "\n"), printed("", "\t"));
+            assert_eq!(with(&["decode", "--fasta"]).text(), fasta);
+            assert_eq!(with(&["decode", "--fasta", "--names"]).text(), fasta);
+            assert_eq!(with(&["decode", "--names"]).text(), table);
             let judged = second::validate(300, &generated.reference.bytes, &file);
             let second::Outcome { blocks, reads, letters, entries, differences, .. } = judged;
             assert!(with(&["validate"]).text().ends_with(&format!(
@@ -100,10 +98,10 @@ fn a_file_of_many_megabytes() {
     let folder = Folder::new("megabytes");
     let mut generated = Generated::new(21, 25);
     for plan in &mut generated.plans {
-        plan.carried[0] = vec![7; 20_000];
+        plan.carried[1] = vec![7; 20_000];
     }
     // A block of more than a window, between many small ones.
-    generated.plans[12].carried[0] = vec![7; 5 << 20];
+    generated.plans[12].carried[1] = vec![7; 5 << 20];
     let reference = folder.write("ref", generated.reference_file());
     let times = 12;
     let small: Vec<u8> = [&generated.blocks()[..12], &generated.blocks()[13..]].concat().concat();
@@ -170,7 +168,7 @@ fn check_refused(folder: &Folder, generated: &Generated, file: &[u8], index: usi
 fn a_refused_block_in_the_middle() {
     let folder = Folder::new("middle");
     let mut met = std::collections::BTreeSet::new();
-    for number in (2..=21).filter(|&number| number != 2 && number != 8) {
+    for number in (3..=21).chain([40]).filter(|&number| number != 8) {
         let mut rng = Prng::new(number as u64);
         let mut generated = Generated::new(number as u64, 9);
         // The block in the middle has what it takes to be spoiled.
@@ -190,7 +188,7 @@ fn a_refused_block_in_the_middle() {
         let offset = generated.plans[..5].iter().map(|plan| plan.block().len()).sum();
         check_refused(&folder, &generated, &generated.file(), 5, offset);
     }
-    assert!(met.len() >= 16, "{met:?}");
+    assert!(met.len() >= 17 && met.contains(&40), "{met:?}");
 }
 
 #[test]

@@ -1,4 +1,4 @@
-//! `frubanto decode`: the letters of a file of blocks.
+//! `frubanto decode`: the letters of a file of blocks, and the names.
 
 use super::{concluded, print_blocks, print_reads, Status, ACCEPTED};
 use crate::arguments::DecodeArguments;
@@ -18,7 +18,9 @@ pub fn run(arguments: &DecodeArguments) -> Result<Status, Failure> {
     let workers = Workers::new(arguments.threads.number)?;
     let print = |block: &FileBlock, decoded: &Decoded, text: &mut Vec<u8>| {
         if arguments.fasta {
-            print_fasta(block.index, decoded, text);
+            print_named(&FASTA, block.index, decoded, text);
+        } else if arguments.names {
+            print_named(&TABLE, block.index, decoded, text);
         } else {
             print_reads(decoded, text);
         }
@@ -33,32 +35,61 @@ pub fn run(arguments: &DecodeArguments) -> Result<Status, Failure> {
     concluded(printed, written).map(|_| ACCEPTED)
 }
 
-/// Adds each read under a name made of the index of its block and its own.
-fn print_fasta(block: u64, decoded: &Decoded, text: &mut Vec<u8>) {
-    let start = format!(">{block}.");
-    let name = start.len() + decoded.len().to_string().len() + 2;
-    text.reserve(decoded.letters().len() + name * decoded.len());
-    let mut digits = b"0".to_vec();
-    for read in decoded.iter() {
-        text.extend_from_slice(start.as_bytes());
-        text.extend_from_slice(&digits);
-        text.push(b'\n');
+/// What stands before a name, and between it and the letters.
+struct Form {
+    before: &'static [u8],
+    between: u8,
+}
+
+const FASTA: Form = Form { before: b">", between: b'\n' };
+const TABLE: Form = Form { before: b"", between: b'\t' };
+
+impl Form {
+    fn print(&self, name: &[u8], read: &[u8], text: &mut Vec<u8>) {
+        text.extend_from_slice(self.before);
+        text.extend_from_slice(name);
+        text.push(self.between);
         text.extend_from_slice(read);
         text.push(b'\n');
-        count_up(&mut digits);
+    }
+
+    /// How many bytes it takes with a name of none and no letters.
+    fn len(&self) -> usize {
+        self.before.len() + 2
     }
 }
 
-/// The next number in decimal digits.
-fn count_up(digits: &mut Vec<u8>) {
-    for digit in digits.iter_mut().rev() {
+/// Adds each read with its name; in a block without names that is the index of the block, a dot and
+/// the index of the read.
+fn print_named(form: &Form, block: u64, decoded: &Decoded, text: &mut Vec<u8>) {
+    let room = decoded.letters().len() + form.len() * decoded.len();
+    if let Some(names) = decoded.names() {
+        text.reserve(room + names.bytes().len());
+        for (name, read) in names.iter().zip(decoded.iter()) {
+            form.print(name, read, text);
+        }
+        return;
+    }
+    let mut name = format!("{block}.").into_bytes();
+    let start = name.len();
+    text.reserve(room + (start + decoded.len().to_string().len()) * decoded.len());
+    name.push(b'0');
+    for read in decoded.iter() {
+        form.print(&name, read, text);
+        count_up(&mut name, start);
+    }
+}
+
+/// Makes the decimal digits from `start` on the next number.
+fn count_up(name: &mut Vec<u8>, start: usize) {
+    for digit in name[start..].iter_mut().rev() {
         if *digit < b'9' {
             *digit += 1;
             return;
         }
         *digit = b'0';
     }
-    digits.insert(0, b'1');
+    name.insert(start, b'1');
 }
 
 #[cfg(test)]
@@ -67,10 +98,10 @@ mod tests {
 
     #[test]
     fn digits_count_up() {
-        let mut digits = b"0".to_vec();
+        let mut name = b"9.0".to_vec();
         for number in 0..12_345 {
-            assert_eq!(digits, number.to_string().as_bytes());
-            count_up(&mut digits);
+            assert_eq!(name, format!("9.{number}").as_bytes());
+            count_up(&mut name, 2);
         }
     }
 }

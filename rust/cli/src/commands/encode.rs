@@ -6,19 +6,29 @@ use crate::block_file::ReferenceFile;
 use crate::failure::{is_stream, Failure, Refused};
 use crate::input::Text;
 use crate::kinds::Kinds;
+use crate::names::NameFault;
 use crate::output::Output;
 use crate::progress::Progress;
 use crate::sam::{make_reads, Batch, SamReader, Tally};
 use crate::say;
 use crate::sequences::{index_path, Sequences};
 use crate::workers::{Job, Workers};
-use ora::{Reads, Reference};
+use ora::{Columns, Reads, Reference, Refusal, RefusalKind, Section};
+use std::cell::RefCell;
 use std::fmt::Write;
 use std::io::IsTerminal;
 use std::path::Path;
 use std::time::{SystemTime, UNIX_EPOCH};
 
 const UNPACK: &str = "SAM text is read, as in `samtools view -h READS.bam | frubanto encode ...`";
+
+/// Of so many blocks it is told why they have no names; of more their number.
+const TOLD: u64 = 10;
+
+thread_local! {
+    // What a thread makes of a batch, again and again. A batch has up to 17 million letters.
+    static READS: RefCell<Reads> = RefCell::new(Reads::new());
+}
 
 pub fn run(arguments: &EncodeArguments) -> Result<Status, Failure> {
     if is_stream(&arguments.reads) && std::io::stdin().is_terminal() {
@@ -35,7 +45,7 @@ pub fn run(arguments: &EncodeArguments) -> Result<Status, Failure> {
     let name = text.name.clone();
     let summary = encode(arguments, &reference, &sequences, text, &mut output)?;
     output.finish()?;
-    say(&summary.in_words(&name));
+    say(&(summary.unnamed_in_words(&name) + &summary.in_words(&name)));
     Ok(ACCEPTED)
 }
 
@@ -44,6 +54,33 @@ struct Encoded {
     block: Vec<u8>,
     read: u64,
     summary: Summary,
+    unnamed: Option<Unnamed>,
+}
+
+/// Why a block is without names that were wanted, and the line of the read that is to blame.
+struct Unnamed {
+    line: u64,
+    fault: NameFault,
+}
+
+impl Unnamed {
+    /// The reason where names are refused (41); None with any other refusal.
+    fn find(batch: &Batch, refusal: Refusal) -> Option<Unnamed> {
+        if refusal.kind() != Some(RefusalKind::LentNamesInvalid) {
+            return None;
+        }
+        let fault = NameFault::find(batch.names())?;
+        Some(Unnamed { line: batch.line_of(fault.read), fault })
+    }
+
+    fn in_words(&self, name: &str, block: u64) -> String {
+        let Unnamed { line, fault } = self;
+        let read = fault.read;
+        format!(
+            "frubanto: {name}, line {line}: block {block} is written without names, as that of \
+             its read {read} {fault}\n"
+        )
+    }
 }
 
 fn encode(
@@ -57,7 +94,8 @@ fn encode(
     let name = text.name.clone();
     let c_time = arguments.c_time.unwrap_or_else(seconds_now);
     let reads_per_block = arguments.reads_per_block as usize;
-    let mut reader = SamReader::new(text, sequences, reads_per_block, arguments.skip_long);
+    let names = !arguments.no_names;
+    let mut reader = SamReader::new(text, sequences, reads_per_block, arguments.skip_long, names);
     let mut b_ids = arguments.b_id..=u64::MAX;
     let kinds = arguments.kinds.then(Kinds::default);
     let mut summary = Summary { kinds, ..Summary::default() };
@@ -71,10 +109,16 @@ fn encode(
         Ok(Some(Job { bytes: batch.bytes(), work: (batch, b_id) }))
     };
     let work = |(batch, b_id): (Batch, u64)| {
-        encode_block(reference, &batch, &name, b_id, c_time, arguments.kinds)
+        READS.with_borrow_mut(|reads| {
+            reads.clear();
+            encode_block(reference, &batch, &name, reads, (b_id, c_time), arguments)
+        })
     };
     let take = |encoded: Encoded| {
         output.write(&encoded.block)?;
+        if let Some(unnamed) = encoded.unnamed.filter(|_| summary.unnamed_blocks < TOLD) {
+            progress.say(&unnamed.in_words(&name, summary.blocks));
+        }
         summary.add(&encoded.summary);
         progress.advance(encoded.read);
         Ok(())
@@ -88,22 +132,54 @@ fn encode_block(
     reference: &Reference,
     batch: &Batch,
     name: &str,
-    b_id: u64,
-    c_time: u64,
-    kinds: bool,
+    reads: &mut Reads,
+    (b_id, c_time): (u64, u64),
+    arguments: &EncodeArguments,
 ) -> Result<Encoded, Failure> {
-    let (mut reads, mut summary) = (Reads::new(), Summary { blocks: 1, ..Summary::default() });
-    make_reads(batch, name, &mut reads, &mut summary.tally)?;
+    let mut summary = Summary { blocks: 1, ..Summary::default() };
+    make_reads(batch, name, reads, &mut summary.tally)?;
     let refused =
         |refusal| Failure::Refused(Refused { file: name.to_string(), refusal, offset: None });
-    let block = ora::encode(reference, &reads, b_id, c_time).map_err(refused)?;
-    if kinds {
-        summary.kinds = Some(Kinds::of(reference, &reads).map_err(refused)?);
+    let nameless = || encode_nameless(reference, reads, b_id, c_time).map_err(refused);
+    let (block, unnamed) = if arguments.no_names {
+        (nameless()?, None)
+    } else {
+        match ora::encode(reference, reads, b_id, c_time) {
+            Ok(block) => (block, None),
+            Err(refusal) => {
+                let unnamed = Unnamed::find(batch, refusal).ok_or_else(|| refused(refusal))?;
+                (nameless()?, Some(unnamed))
+            }
+        }
+    };
+    if arguments.kinds {
+        summary.kinds = Some(Kinds::of(reference, reads).map_err(refused)?);
     }
     summary.reads = reads.len() as u64;
     summary.letters = reads.letters() as u64;
     summary.bytes = block.len() as u64;
-    Ok(Encoded { block, read: batch.read, summary })
+    summary.name_bytes = ora::section_span(&block, Section::Names).len() as u64;
+    summary.unnamed_blocks = u64::from(unnamed.is_some());
+    if unnamed.is_none() && !arguments.no_names {
+        summary.named = summary.reads;
+    }
+    Ok(Encoded { block, read: batch.read, summary, unnamed })
+}
+
+/// The block of these reads without their names: each gets a name of one byte, and the names are
+/// cut out of the block.
+fn encode_nameless(
+    reference: &Reference,
+    reads: &Reads,
+    b_id: u64,
+    c_time: u64,
+) -> Result<Vec<u8>, Refusal> {
+    let names = vec![b'0'; reads.len()];
+    let name_ends: Vec<u32> = (1..=reads.len() as u32).collect();
+    let columns = Columns { names: &names, name_ends: &name_ends, ..reads.columns() };
+    let mut block = vec![0; columns.room()];
+    let length = ora::encode_into(reference, &columns, b_id, c_time, &mut block)?;
+    Ok(ora::without_names(&block[..length]))
 }
 
 /// What a run has done.
@@ -111,8 +187,13 @@ fn encode_block(
 struct Summary {
     blocks: u64,
     bytes: u64,
+    name_bytes: u64,
     reads: u64,
     letters: u64,
+    // Reads whose names are stored.
+    named: u64,
+    // Blocks without names that were wanted.
+    unnamed_blocks: u64,
     tally: Tally,
     kinds: Option<Kinds>,
 }
@@ -121,17 +202,33 @@ impl Summary {
     fn add(&mut self, other: &Summary) {
         self.blocks += other.blocks;
         self.bytes += other.bytes;
+        self.name_bytes += other.name_bytes;
         self.reads += other.reads;
         self.letters += other.letters;
+        self.named += other.named;
+        self.unnamed_blocks += other.unnamed_blocks;
         self.tally.add(&other.tally);
         if let (Some(kinds), Some(others)) = (&mut self.kinds, &other.kinds) {
             kinds.add(others);
         }
     }
 
+    /// How many blocks are without names that were wanted, if there are any.
+    fn unnamed_in_words(&self, name: &str) -> String {
+        let Summary { blocks, reads, named, unnamed_blocks, .. } = self;
+        if *unnamed_blocks == 0 {
+            return String::new();
+        }
+        let unnamed = reads - named;
+        format!(
+            "frubanto: {name}: {unnamed_blocks} of {blocks} blocks, with {unnamed} of {reads} \
+             reads, are written without names\n"
+        )
+    }
+
     /// The first line says what was written, and each of the others counts something.
     fn in_words(&self, name: &str) -> String {
-        let Summary { blocks, bytes, reads, letters, tally, kinds } = self;
+        let Summary { blocks, bytes, name_bytes, reads, letters, named, tally, kinds, .. } = self;
         let mut text =
             format!("{name}: {reads} reads, {letters} letters, {blocks} blocks, {bytes} bytes");
         if *letters > 0 {
@@ -157,6 +254,9 @@ impl Summary {
         line(tally.hard_clipped, "hard-clipped: SEQ has a part of the read");
         line(tally.changed.unknown, "letters stored as N for another one");
         line(tally.changed.uracil, "letters stored as T for U");
+        line(*named, "with a name");
+        line(reads - named, "without a name");
+        line(*name_bytes, "bytes of names");
         if let Some(Kinds { perfect, global, local, raw }) = kinds {
             line(*perfect, "stored perfect");
             line(*global, "stored global");

@@ -9,7 +9,7 @@ pub mod validate;
 
 use crate::block_file::{FileBlock, Walk};
 use crate::failure::Failure;
-use crate::header::Header;
+use crate::header::{names_at_most, Header};
 use crate::input::InputFile;
 use crate::output::Output;
 use crate::progress::Progress;
@@ -95,10 +95,11 @@ fn concluded<T>(found: Result<T, Failure>, written: Result<(), Failure>) -> Resu
     }
 }
 
-/// About how many bytes a block takes with its letters and their text.
+/// About how many bytes a block takes with its letters and names and their text.
 fn bytes_when_printed(block: &[u8]) -> u64 {
     let header = Header::of(block);
-    block.len() as u64 + 2 * u64::from(header.l_dna_raw) + 20 * u64::from(header.n_reads)
+    let letters_and_names = u64::from(header.l_dna_raw) + names_at_most(block);
+    block.len() as u64 + 2 * letters_and_names + 24 * u64::from(header.n_reads)
 }
 
 /// Adds each read on a line of its own.

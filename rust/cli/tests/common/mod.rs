@@ -150,7 +150,8 @@ pub struct Generated {
 impl Generated {
     pub fn new(seed: u64, blocks: usize) -> Generated {
         let mut rng = Prng::new(seed);
-        let shape = Shape { bases: 300, max_reads: 40, max_length: 90, max_carried: 20 };
+        let shape =
+            Shape { bases: 300, max_reads: 40, max_length: 90, max_carried: 20, max_name: 255 };
         let reference = generate_reference(&mut rng, shape.bases);
         let plans = (0..blocks).map(|_| generate_under(&mut rng, shape, &reference)).collect();
         Generated { reference, plans }
@@ -168,18 +169,32 @@ impl Generated {
         self.blocks().concat()
     }
 
+    /// The letters of the reads of the first blocks.
+    pub fn reads(&self, blocks: usize) -> Vec<String> {
+        let plans = &self.plans[..blocks];
+        plans.iter().flat_map(|plan| parts(&plan.expected.letters, &plan.expected.ends)).collect()
+    }
+
     /// The reads of the first blocks, a line each.
     pub fn lines(&self, blocks: usize) -> String {
-        let mut lines = String::new();
-        for plan in &self.plans[..blocks] {
-            let mut start = 0;
-            for &end in &plan.expected.ends {
-                let read = &plan.expected.letters[start..end as usize];
-                lines.push_str(std::str::from_utf8(read).unwrap());
-                lines.push('\n');
-                start = end as usize;
-            }
-        }
-        lines
+        self.reads(blocks).into_iter().map(|read| read + "\n").collect()
     }
+
+    /// What the reads of the first blocks are called; where names are not read, by their indices.
+    pub fn names(&self, blocks: usize) -> Vec<String> {
+        let plans = self.plans[..blocks].iter().enumerate();
+        plans
+            .flat_map(|(block, plan)| match plan.flags & 0x8 {
+                0 => (0..plan.expected.ends.len()).map(|read| format!("{block}.{read}")).collect(),
+                _ => parts(&plan.expected.names, &plan.expected.name_ends),
+            })
+            .collect()
+    }
+}
+
+/// The parts of a text that end there.
+fn parts(text: &[u8], ends: &[u32]) -> Vec<String> {
+    let starts = std::iter::once(0).chain(ends.iter().copied());
+    let parts = starts.zip(ends).map(|(start, &end)| &text[start as usize..end as usize]);
+    parts.map(|part| String::from_utf8(part.to_vec()).unwrap()).collect()
 }
