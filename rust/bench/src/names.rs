@@ -401,6 +401,10 @@ pub fn print_tables() {
             times.iter().map(|times| times[plain] / times[proved]),
         );
         row(
+            &format!("{title}, speed, proved, the time {without} taken off, to plain Rust"),
+            times.iter().map(|times| times[plain] / (times[proved] - times[other])),
+        );
+        row(
             &format!("{title}, speed, proved to second"),
             times.iter().map(|times| times[second] / times[proved]),
         );
