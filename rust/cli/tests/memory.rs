@@ -7,8 +7,17 @@ use ora::{Candidate, Reads, Reference};
 use std::process::{Command, Stdio};
 use std::time::Duration;
 
-/// The most memory that a run takes, in KiB.
+/// The least that a run takes once its program is loaded, in KiB.
+const LOADED: u64 = 1 << 10;
+
+/// The most memory that a run takes, in KiB. A run that was over before it was looked at is tried
+/// again.
 fn peak(arguments: &[&str]) -> u64 {
+    (0..100).map(|_| seen_peak(arguments)).find(|&most| most > LOADED).unwrap()
+}
+
+/// The most memory that a run was seen to take, in KiB.
+fn seen_peak(arguments: &[&str]) -> u64 {
     let mut command = Command::new(FRUBANTO);
     command.args(arguments).stdin(Stdio::null()).stdout(Stdio::null());
     let mut child = command.spawn().unwrap();
