@@ -7,7 +7,7 @@ use mathlib.Core.Bool.{Bool, true, false, not}
 use mathlib.Core.List.{List, [], _∷_, map, flatten, flatMap}
 use lib.ListN.{length, getD, length-append, length-map, List·getD-map}
 use Rattle.base.specs.Lists.{any, All, Below}
-use Rattle.base.proofs.ListLaws.{getD-inside, all-left, all-right, below-nil, below-cons, below-append}
+use Rattle.base.proofs.ListLaws.{getD-inside, all-append, all-left, all-right, below-nil, below-cons, below-append}
 use Rattle.base.proofs.Tests.{or-neither, neither-or, not-false, true-not}
 
 -- ---- Claims
@@ -33,6 +33,12 @@ pub flatten-all {ℓ} : {A : Type ℓ} (P : A → Type 0) (lists : List (List A)
 unfolding flatten
 flatten-all P [] h = tt
 flatten-all P (list ∷ lists) h = (all-left P list (flatten lists) h, flatten-all P lists (all-right P list (flatten lists) h))
+
+-- And back.
+pub all-flatten {ℓ} : {A : Type ℓ} (P : A → Type 0) (lists : List (List A)) → All (All P) lists → All P (flatten lists)
+unfolding flatten
+all-flatten P [] h = tt
+all-flatten P (list ∷ lists) h = all-append P list (flatten lists) (h .0) (all-flatten P lists (h .1))
 
 -- A test that fails of none holds of all.
 pub none-all {ℓ} : {A : Type ℓ} (test : A → Bool) (list : List A) → any (λ x. not (test x)) list ≡ false → All (λ x. test x ≡ true) list

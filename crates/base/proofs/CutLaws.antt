@@ -1,14 +1,20 @@
 -- Lists and the one list that they make up, with the ends of each: each gives the other. Assumes nothing.
 use mathlib.Core.Path.{_≡_, refl, sym, ap, ap₂, _∙_}
+use mathlib.Core.Bool.{Bool, false, not}
 use Prim.Native.Nat.{ℕ, _+_, _-_, _<_}
 use native.Mathlib.Omega.{arith}
 use mathlib.Core.List.{List, [], _∷_, _++_, map, flatten, append-assoc}
 use lib.ListN.{length, getD, take, drop, length-append, length-drop, length-map, take-append-drop}
 use lib.Seq.{length-take-le}
-use Rattle.base.specs.Lists.{build, part, total, placesFrom, stepsFrom, All}
+use lib.Dec.{eqb}
+use borrow.Author.Tests.{eqb-true, eq-eqb}
+use Rattle.base.specs.Lists.{build, part, any, total, placesFrom, stepsFrom, endsWrongFor, All}
 use Rattle.base.proofs.ListLaws.{no-length}
 use Rattle.base.proofs.AtLaws.{at-middle, at-part}
-use Rattle.base.proofs.StepsLaws.{length-places}
+use Rattle.base.proofs.AllLaws.{all-too, any-all}
+use Rattle.base.proofs.GroupLaws.{length-flatten}
+use Rattle.base.proofs.StepsLaws.{length-stepsFrom, length-places, steps-of-places, last-place}
+use Rattle.base.proofs.Tests.{or-neither, neither-or, not-false, true-not}
 
 -- Places that rise by their steps are where those lead.
 pub places-of-rising : (start : ℕ) (places : List ℕ) → All (λ step. 0 < step) (stepsFrom start places)
@@ -80,3 +86,49 @@ flatten-cutBy (size ∷ lengths) whole e =
     ap (λ (rest : List ℕ). take size whole ++ rest)
     (flatten-cutBy lengths (drop size whole) (omega (arith, length-drop size whole)))
     ∙ take-append-drop size whole
+
+-- ---- By a test of the ends
+
+-- The ends of lists whose lengths pass are without fault.
+pub lists-ends : (stepWrong : ℕ → Bool) (whole ends : List ℕ) (lists : List (List ℕ)) → whole ≡ flatten lists
+    → ends ≡ placesFrom 0 (map length lists) → any stepWrong (map length lists) ≡ false
+    → endsWrongFor stepWrong ends (length whole) ≡ false
+lists-ends stepWrong whole ends lists e f pass =
+    let lengths : List ℕ = map length lists in
+    let none : 0 + total lengths ≡ total lengths = omega arith in
+    let last : getD (0 ∷ ends) (length ends) 0 ≡ length whole =
+    ap₂ (λ (places : List ℕ) (n : ℕ). getD (0 ∷ places) n 0) f (ap length f ∙ length-places 0 lengths)
+    ∙ last-place 0 lengths
+    ∙ none
+    ∙ sym (ap length e ∙ length-flatten lists) in
+    neither-or _ _ (ap (any stepWrong) (ap (stepsFrom 0) f ∙ steps-of-places 0 lengths) ∙ pass) (true-not _ (eq-eqb _ _ last))
+
+-- Lists that make up a list between its ends.
+pub record CutAt (stepWrong : ℕ → Bool) (whole ends : List ℕ) (lists : List (List ℕ)) : Type 0 where
+  pub counted : length lists ≡ length ends
+  pub pass : any stepWrong (map length lists) ≡ false
+  pub whole-is : whole ≡ flatten lists
+  pub ends-are : ends ≡ placesFrom 0 (map length lists)
+
+-- Ends without fault cut a list into such lists, where no length of 0 passes.
+pub ends-lists : (stepWrong : ℕ → Bool) → ((size : ℕ) → stepWrong size ≡ false → 0 < size) → (whole ends : List ℕ)
+    → endsWrongFor stepWrong ends (length whole) ≡ false → CutAt stepWrong whole ends (cutBy (stepsFrom 0 ends) whole)
+ends-lists stepWrong some whole ends right =
+    let lengths : List ℕ = stepsFrom 0 ends in
+    let parts : (any stepWrong lengths ≡ false) × (not (eqb (getD (0 ∷ ends) (length ends) 0) (length whole)) ≡ false)
+    = or-neither _ _ right in
+    let back : placesFrom 0 lengths ≡ ends
+    = places-of-rising 0 ends (all-too (λ size. stepWrong size ≡ false) (λ size. 0 < size) some lengths (any-all stepWrong lengths (parts .0))) in
+    let none : total lengths ≡ 0 + total lengths = omega arith in
+    let last : total lengths ≡ length whole =
+    none
+    ∙ sym (last-place 0 lengths)
+    ∙ ap₂ (λ (places : List ℕ) (n : ℕ). getD (0 ∷ places) n 0) back (length-stepsFrom 0 ends)
+    ∙ eqb-true _ _ (not-false _ (parts .1)) in
+    let sizes : map length (cutBy lengths whole) ≡ lengths = lengths-cutBy lengths whole last in
+    record {
+      counted = sym (length-map (cutBy lengths whole) length) ∙ ap length sizes ∙ length-stepsFrom 0 ends;
+      pass = ap (any stepWrong) sizes ∙ parts .0;
+      whole-is = sym (flatten-cutBy lengths whole last);
+      ends-are = sym (ap (placesFrom 0) sizes ∙ back);
+    }

@@ -12,7 +12,8 @@ use Rattle.base.specs.Groups.{inGroups, groupSizes, byteBitStray, flagByte}
 use Rattle.base.specs.Packed.{bit}
 use Rattle.base.specs.Place.{At}
 use Rattle.base.specs.Answer.{found}
-use Rattle.base.proofs.ListLaws.{below-at, all-append}
+use Rattle.base.proofs.AllLaws.{all-flatten}
+use Rattle.base.proofs.ListLaws.{below-at}
 use Rattle.base.proofs.AtLaws.{at-self, at-same, at-both, at-cons, at-nil, at-to}
 use Rattle.base.proofs.GroupLaws.{inGroups-unique, total-groupSizes}
 use Rattle.base.proofs.Tests.{absurd-test, or-neither}
@@ -156,11 +157,6 @@ groups-found (count ∷ counts) {list} at {stored} {next} bytes h e =
       ends = omega (arith, eq .1, more .ends, f .ends, length-append (sizeGroupBytes group) (flatMap sizeGroupBytes (more .groups)));
     }))
 
-all-flatten : (groups : List (List StoredSize)) → All (All StoredFits) groups → All StoredFits (flatten groups)
-unfolding flatten
-all-flatten [] h = tt
-all-flatten (group ∷ groups) h = all-append StoredFits group (flatten groups) (h .0) (all-flatten groups (h .1))
-
 -- What a size section answers is what it stores, for so many reads.
 pub record SizesAnswered (n : ℕ) (section lengths : List ℕ) : Type 0 where
   pub stored : SizesStored section lengths
@@ -183,7 +179,7 @@ answer-sizes n section lengths end bytes e =
     record {
       stored = record {
         stored = stored;
-        fit = subst (λ (s : List StoredSize). All StoredFits s) (f .whole) (all-flatten (f .groups) (f .fit));
+        fit = subst (λ (s : List StoredSize). All StoredFits s) (f .whole) (all-flatten StoredFits (f .groups) (f .fit));
         first = second .0;
         bytes =
             at-same (flatMap sizeGroupBytes (inGroups stored)) section

@@ -13,7 +13,7 @@ use borrow.Author.Tests.{lt-ltb, le-ltb, eq-eqb, ne-eqb, eqb-false}
 use Rattle.base.specs.Lists.{any}
 use Rattle.base.proofs.ListLaws.{by-order, by-test}
 use Rattle.base.proofs.Tests.{any-append, or-neither, or-right}
-use Rattle.tokens.specs.Split.{isDigit, isPrintable, maxName}
+use Rattle.tokens.specs.Split.{isDigit, isPrintable, maxName, nameLengthInvalid}
 use Rattle.tokens.specs.ColumnsAt.{Cursor, stringLength, numberAt, tokenAt, tokenInvalid}
 use Rattle.tokens.specs.NamesAt.{natureWrong, splitWrong, nameInvalid, rowInvalid, rowAt}
 use Rattle.names.specs.Cursors.{tokenWrong, tokenSize, rowWrong, rowSize, rowSizeFrom}
@@ -211,7 +211,7 @@ module _ (section : List ℕ) (first : Bool) where
       → (0 < length (token cursor) → digits ≡ isDigit (getD (token cursor) 0 0))
       → rowSize section first (cursor ∷ cursors)
       ≡ rowSizeFrom section first digits 0 (cursor ∷ cursors)
-  unfolding rowSize rowWrong rowInvalid nameInvalid
+  unfolding rowSize rowWrong rowInvalid nameInvalid nameLengthInvalid
   row-size digits cursor cursors starts =
       let all : List Cursor = cursor ∷ cursors in
       let invalid : Bool = any (tokenInvalid section first) all in

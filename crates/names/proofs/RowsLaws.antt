@@ -6,15 +6,14 @@ use Prim.Native.Nat.{ℕ, suc, _+_, _≤_, _<_}
 use native.Mathlib.Nat.{add-zero}
 use native.Mathlib.Omega.{arith}
 use lib.ListN.{length, length-append}
-use lib.Dec.{ltb, eqb}
-use borrow.Author.Tests.{eqb-false, ltb-false}
 use Rattle.base.specs.Lists.{any}
-use Rattle.base.proofs.ListLaws.{by-order, by-test}
+use Rattle.base.proofs.ListLaws.{by-test}
 use Rattle.base.proofs.Tests.{or-neither}
 use Rattle.tokens.specs.Split.{maxName}
 use Rattle.tokens.specs.ColumnsAt.{Cursor, cursorAfter, tokenInvalid}
-use Rattle.tokens.specs.NamesAt.{splitWrong, nameInvalid, rowInvalid, rowAt, namesFrom}
+use Rattle.tokens.specs.NamesAt.{splitWrong, rowInvalid, rowAt, namesFrom}
 use Rattle.tokens.specs.NamesAt.{cursorsAfter, rowsInvalid, endsWrong}
+use Rattle.tokens.proofs.RowMeaning.{name-fits}
 use Rattle.names.specs.Cursors.{rowWrong, rowSize}
 use Rattle.names.specs.Judged.{judgedFrom}
 use Rattle.names.specs.declared.NamesJudged.the-variants as names
@@ -31,18 +30,12 @@ module _ (section : List ℕ) (first : Bool) (cursors : List Cursor) where
   pub row-right : rowWrong section first cursors ≡ false
       → (0 < length (flatten (rowAt section first cursors)))
       × (length (flatten (rowAt section first cursors)) ≤ maxName)
-  unfolding rowWrong rowInvalid nameInvalid
+  unfolding rowWrong rowInvalid
   row-right e =
       let tokens = or-neither (any (tokenInvalid section first) cursors) _ e in
       let row = or-neither (splitWrong _ (rowAt section first cursors)) _ (tokens .1) in
-      let some = or-neither (eqb (length name) 0) _ (row .1) in
-      let short = or-neither (ltb maxName (length name)) _ (some .1) in (
-        by-order 0 (length name) (λ h. h)
-            (λ h. let z : length name ≡ 0 = omega arith in absurd (eqb-false (length name) 0 (some
-            .0)
-            z)),
-        ltb-false maxName (length name) (short .0),
-      )
+      let fits = name-fits name (row .1) in
+      (fits .some, fits .short)
 
   -- A size of 0 is a wrong row.
   pub size-none : rowSize section first cursors ≡ 0 → rowWrong section first cursors ≡ true

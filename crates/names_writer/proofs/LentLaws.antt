@@ -1,30 +1,22 @@
 -- Names that are lent: where each lies. Assumes nothing.
 use mathlib.Core.Path.{_≡_, sym, ap₂, _∙_}
 use Prim.Native.Nat.{ℕ, zero, suc, _-_, _≤_, _<_}
-use native.Mathlib.Nat.{not-suc-le-zero, le-of-suc-le-suc, pos-of-ne-zero}
+use native.Mathlib.Nat.{not-suc-le-zero, le-of-suc-le-suc}
 use native.Mathlib.Omega.{arith}
 use mathlib.Core.Bool.{false, not}
 use mathlib.Core.List.{List, [], _∷_}
 use lib.ListN.{length, getD, take, drop, length-drop}
 use lib.Seq.{length-take-le}
-use lib.Dec.{ltb, eqb}
-use borrow.Author.Tests.{eqb-true, eqb-false, ltb-false}
+use lib.Dec.{eqb}
+use borrow.Author.Tests.{eqb-true}
 use Rattle.base.specs.Lists.{part, any, stepsFrom}
 use Rattle.base.proofs.ListLaws.{length-build, getD-build}
 use Rattle.base.proofs.Tests.{or-neither, not-false}
-use Rattle.tokens.specs.Split.{maxName}
-use Rattle.tokens.specs.WrittenNames.{namesLent, nameLengthInvalid, nameEndsInvalid}
+use Rattle.tokens.specs.Split.{maxName, nameLengthInvalid}
+use Rattle.tokens.specs.WrittenNames.{namesLent, nameEndsInvalid}
+use Rattle.tokens.proofs.RowMeaning.{valid-length}
 use Rattle.names_writer.specs.Lent.{NamesLie}
 use Rattle.names_writer.specs.Runs.{NameLent}
-
--- The length of a name that is not refused.
-length-valid : (size : ℕ) → nameLengthInvalid size ≡ false → (0 < size) × (size ≤ maxName)
-unfolding nameLengthInvalid
-length-valid size e =
-    let both = or-neither (eqb size 0) (ltb maxName size) e in
-    let some : (size ≡ 0) → ⊥ = eqb-false size 0 (both .0) in
-    let short : size ≤ maxName = ltb-false maxName size (both .1) in
-    (pos-of-ne-zero some, short)
 
 -- Where a name lies between its ends.
 pub record Lies (start : ℕ) (ends : List ℕ) (i : ℕ) : Type 0 where
@@ -36,7 +28,7 @@ lies-each : (start : ℕ) (ends : List ℕ) → any nameLengthInvalid (stepsFrom
 unfolding any stepsFrom
 lies-each start [] none i h = absurd (not-suc-le-zero h)
 lies-each start (end ∷ ends) none zero h =
-    let valid = length-valid (end - start) (or-neither (nameLengthInvalid (end - start))
+    let valid = valid-length (end - start) (or-neither (nameLengthInvalid (end - start))
     (any nameLengthInvalid (stepsFrom end ends)) none .0) in
     record { rises = omega (arith, valid .0); short = valid .1 }
 lies-each start (end ∷ ends) none (suc i) h =
@@ -52,7 +44,7 @@ unfolding any stepsFrom
 last-end start [] none zero h = omega arith
 last-end start [] none (suc i) h = absurd (not-suc-le-zero h)
 last-end start (end ∷ ends) none zero h =
-    let valid = length-valid (end - start) (or-neither (nameLengthInvalid (end - start))
+    let valid = valid-length (end - start) (or-neither (nameLengthInvalid (end - start))
     (any nameLengthInvalid (stepsFrom end ends)) none .0) in
     omega (
       arith,

@@ -10,9 +10,9 @@ use borrow.Author.Tests.{eq-eqb, ne-eqb, lt-ltb, le-ltb, lt-leb, le-leb}
 use Rattle.base.specs.Lists.{build, any, stepsFrom}
 use Rattle.base.proofs.ListLaws.{by-order}
 use Rattle.base.proofs.AnyLaws.{any-found, any-passed, any-past}
-use Rattle.tokens.specs.Split.{maxName}
+use Rattle.tokens.specs.Split.{maxName, nameLengthInvalid}
 use Rattle.tokens.specs.WrittenNames.{splitOf, tokenCount, tokenCountsDiffer}
-use Rattle.tokens.specs.WrittenNames.{nameLengthInvalid, nameEndsInvalid, namesLent}
+use Rattle.tokens.specs.WrittenNames.{nameEndsInvalid, namesLent}
 use Rattle.names_writer.proofs.LentLaws.{length-lent}
 
 -- ---- The length of a name

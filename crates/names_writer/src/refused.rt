@@ -6,8 +6,8 @@ ghost use mathlib.Core.Path.{_≡_};
 ghost use mathlib.Core.Bool.{not};
 ghost use Prim.Native.Nat.{_-_};
 ghost use Rattle.base.specs.Lists.{any};
-ghost use Rattle.tokens.specs.Split.{isPrintable};
-ghost use Rattle.tokens.specs.WrittenNames.{nameLengthInvalid, nameEndsInvalid};
+ghost use Rattle.tokens.specs.Split.{isPrintable, nameLengthInvalid};
+ghost use Rattle.tokens.specs.WrittenNames.{nameEndsInvalid};
 ghost use Rattle.tokens.specs.WrittenNames.{namesLent, tokenCount, tokenCountsDiffer};
 ghost use Rattle.names_writer.specs.Lent.{NamesLie};
 

@@ -4,7 +4,7 @@ use mathlib.Core.List.{flatten, flatMap}
 use Rattle.base.specs.Lists.{build, any, member, indexOf, total, placesFrom, stepsFrom}
 use Rattle.base.specs.Numbers.{le, leBytes, signed, nonNegative}
 use Rattle.base.specs.Decimal.{digitsOf, decimal}
-use Rattle.tokens.specs.Split.{isDigit, isPrintable}
+use Rattle.tokens.specs.Split.{isDigit, isPrintable, nameLengthInvalid}
 use Rattle.tokens.specs.Columns.{stepType, columnType, numbersFrom, columnTokens, columnBytes}
 use Rattle.tokens.specs.Names.{namesBytes}
 use Rattle.tokens.specs.ColumnsAt.{columnCount, columnSizes, firstCursors, columnEnd}
@@ -17,7 +17,7 @@ use Rattle.tokens.specs.NamesAt.{columnsInvalid, namesInvalid, namesRead
 use Rattle.tokens.specs.WrittenNames.{alike, withByte, splitOf, valueFrom, valueOf, notNumber}
 use Rattle.tokens.specs.WrittenNames.{stepsInvalid, stepsOf, widthFor, notRising, columnFor}
 use Rattle.tokens.specs.WrittenNames.{tokenCount, tokensAt, columnsFor, writtenNames}
-use Rattle.tokens.specs.WrittenNames.{namesLent, nameLengthInvalid, nameEndsInvalid}
+use Rattle.tokens.specs.WrittenNames.{namesLent, nameEndsInvalid}
 use Rattle.tokens.specs.WrittenNames.{tokenCountsDiffer, namesRefused}
 use Rattle.tokens.specs.Examples.{nameOf, firstName, secondName, twoSection, columnOf}
 use Rattle.tokens.specs.Examples.{asStrings, SplitsRight, ColumnsRight, SectionsRight}

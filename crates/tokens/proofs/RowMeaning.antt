@@ -3,7 +3,7 @@ use mathlib.Core.Path.{_≡_, refl, sym, ap, _∙_, subst}
 use Prim.Native.Nat.{ℕ, _≤_, _<_}
 use native.Mathlib.Nat.{not-suc-le-zero}
 use native.Mathlib.Omega.{arith}
-use mathlib.Core.Bool.{Bool, true, false, cond, not}
+use mathlib.Core.Bool.{Bool, true, false, cond, not, _||_}
 use mathlib.Core.List.{List, [], _∷_, flatten}
 use lib.ListN.{length, getD, length-append, List·getD-append}
 use lib.Dec.{eqb, ltb, leb}
@@ -12,7 +12,7 @@ use Rattle.base.specs.Lists.{All}
 use Rattle.base.proofs.ListLaws.{all-getD}
 use Rattle.base.proofs.Tests.{or-neither, neither-or, not-false, true-not, and-both}
 use Rattle.base.proofs.AllLaws.{all-too, none-all, all-none, any-all, all-any}
-use Rattle.tokens.specs.Split.{isDigit, isPrintable, maxName, Token, Alternate, Split, NameFits}
+use Rattle.tokens.specs.Split.{isDigit, isPrintable, maxName, nameLengthInvalid, Token, Alternate, Split, NameFits}
 use Rattle.tokens.specs.NamesAt.{natureWrong, splitWrong, nameInvalid, rowInvalid}
 use Rattle.tokens.proofs.SplitLaws.{token-first}
 use Rattle.tokens.proofs.StringColumn.{NoZero}
@@ -85,26 +85,41 @@ tokens-few digits (token ∷ tokens) h =
 
 -- ---- A name
 
+-- A length within two limits passes the test, and back.
+length-by : (none most size : ℕ) → (size ≡ none → ⊥) → size ≤ most → eqb size none || ltb most size ≡ false
+length-by none most size some short = neither-or _ _ (ne-eqb size none some) (le-ltb most size short)
+
+by-length : (none most size : ℕ) → eqb size none || ltb most size ≡ false → (size ≡ none → ⊥) × (size ≤ most)
+by-length none most size e =
+    let parts = or-neither (eqb size none) (ltb most size) e in
+    (eqb-false size none (parts .0), ltb-false most size (parts .1))
+
+-- The length of a name that fits passes.
+pub length-valid : (size : ℕ) → 0 < size → size ≤ maxName → nameLengthInvalid size ≡ false
+unfolding nameLengthInvalid
+length-valid size some short = length-by _ _ size (λ e. omega arith) (omega arith)
+
+-- A length that passes is that of a name that fits.
+pub valid-length : (size : ℕ) → nameLengthInvalid size ≡ false → (0 < size) × (size ≤ maxName)
+unfolding nameLengthInvalid
+valid-length size e =
+    let by = by-length _ _ size e in
+    let some = by .0 in
+    (omega arith, omega (arith, by .1))
+
 -- What the tests of a name say.
 pub name-fits : (name : List ℕ) → nameInvalid name ≡ false → NameFits name
 unfolding nameInvalid
 name-fits name e =
-    let parts = or-neither (eqb (length name) 0) _ e in
-    let more = or-neither (ltb maxName (length name)) _ (parts .1) in
-    let none : length name ≡ 0 → ⊥ = eqb-false (length name) 0 (parts .0) in
-    record {
-      some = omega arith;
-      short = ltb-false maxName (length name) (more .0);
-      printable = none-all isPrintable name (more .1);
-    }
+    let parts = or-neither (nameLengthInvalid (length name)) _ e in
+    let size = valid-length (length name) (parts .0) in
+    record { some = size .0; short = size .1; printable = none-all isPrintable name (parts .1) }
 
 -- And back.
 pub fits-name : (name : List ℕ) → NameFits name → nameInvalid name ≡ false
 unfolding nameInvalid
 fits-name name h =
-    neither-or (eqb (length name) 0) _ (ne-eqb (length name) 0 (λ e. omega (arith, h .some)))
-    (neither-or (ltb maxName (length name)) _ (le-ltb maxName (length name) (h .short))
-    (all-none isPrintable name (h .printable)))
+    neither-or _ _ (length-valid (length name) (h .some) (h .short)) (all-none isPrintable name (h .printable))
 
 -- A printable token has no zero byte.
 pub printable-nonzero : (token : List ℕ) → All (λ byte. isPrintable byte ≡ true) token → NoZero token

@@ -4,10 +4,10 @@ use Prim.Native.Nat.{ℕ, zero, suc}
 use mathlib.Core.Bool.{Bool, true, false, cond, not, _||_}
 use mathlib.Core.List.{List, [], _∷_, map, flatten}
 use lib.ListN.{length, getD}
-use lib.Dec.{ltb, eqb}
+use lib.Dec.{eqb}
 use Rattle.base.specs.Lists.{build, any}
 use Rattle.base.specs.Answer.{Scan, found, refused}
-use Rattle.tokens.specs.Split.{isDigit, isPrintable, maxName}
+use Rattle.tokens.specs.Split.{isDigit, isPrintable, nameLengthInvalid}
 use Rattle.tokens.specs.ColumnsAt.{columnCount, Cursor, firstCursors, columnEnd, tableInvalid}
 use Rattle.tokens.specs.ColumnsAt.{tokenAt, cursorAfter, tokenInvalid}
 
@@ -26,8 +26,7 @@ splitWrong digits (token ∷ tokens) = natureWrong digits token || splitWrong (n
 -- A name is empty, too long or not printable.
 unfoldable pub nameInvalid : (name : List ℕ) → Bool
 nameInvalid name =
-    eqb (length name) 0
-    || (ltb maxName (length name) || any (λ byte. not (isPrintable byte)) name)
+    nameLengthInvalid (length name) || any (λ byte. not (isPrintable byte)) name
 
 -- The first token's first byte tells what the first token is.
 unfoldable pub rowInvalid : (tokens : List (List ℕ)) → Bool

@@ -2,10 +2,10 @@
 -- characters. It is said without a walk over the name.
 use Prim.Native.Nat.{ℕ, _≤_, _<_}
 use mathlib.Core.Path.{_≡_}
-use mathlib.Core.Bool.{Bool, true, not, _&&_}
+use mathlib.Core.Bool.{Bool, true, not, _&&_, _||_}
 use mathlib.Core.List.{List, [], _∷_, flatten}
 use lib.ListN.{length}
-use lib.Dec.{leb}
+use lib.Dec.{leb, ltb, eqb}
 use Rattle.base.specs.Lists.{All}
 
 -- The digits 0 to 9.
@@ -35,6 +35,10 @@ pub record Split (name : List ℕ) (tokens : List (List ℕ)) : Type 0 where
 -- The longest name.
 abbrev pub maxName : ℕ
 maxName = 255
+
+-- The length of a name is not 1 to 255.
+unfoldable pub nameLengthInvalid : (size : ℕ) → Bool
+nameLengthInvalid size = eqb size 0 || ltb maxName size
 
 -- Names are 1 to 255 printable bytes.
 pub record NameFits (name : List ℕ) : Type 0 where

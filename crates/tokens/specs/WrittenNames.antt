@@ -5,7 +5,7 @@ use mathlib.Core.List.{List, [], _∷_, map}
 use lib.ListN.{length, getD}
 use lib.Dec.{ltb, eqb}
 use Rattle.base.specs.Lists.{build, partEnding, any, stepsFrom, endsWrongFor}
-use Rattle.tokens.specs.Split.{isDigit, isPrintable, maxName}
+use Rattle.tokens.specs.Split.{isDigit, isPrintable, nameLengthInvalid}
 use Rattle.tokens.specs.Columns.{Column, strings, rising}
 use Rattle.tokens.specs.Names.{namesBytes}
 
@@ -104,10 +104,6 @@ writtenNames (name ∷ names) = namesBytes (columnsFor (name ∷ names))
 -- The names that a caller lends.
 unfoldable pub namesLent : (bytes ends : List ℕ) → List (List ℕ)
 namesLent bytes ends = build (length ends) (partEnding bytes ends)
-
--- The length of a name is not 1 to 255.
-unfoldable pub nameLengthInvalid : (size : ℕ) → Bool
-nameLengthInvalid size = eqb size 0 || ltb maxName size
 
 -- The ends do not rise from 0 by 1 to 255, or the last is not the bytes' count.
 unfoldable pub nameEndsInvalid : (bytes ends : List ℕ) → Bool

@@ -1,19 +1,19 @@
 -- Reads and the buffers that lend them: each gives the other. Assumes nothing.
 use mathlib.Core.Path.{_≡_, refl, sym, ap, ap₂, _∙_, subst}
-use Prim.Native.Nat.{ℕ, zero, suc, _+_, _-_, _^_, _<_}
+use Prim.Native.Nat.{ℕ, zero, suc, _+_, _^_, _<_}
 use native.Mathlib.Omega.{arith}
 use mathlib.Core.Bool.{true, false}
-use mathlib.Core.List.{List, [], _∷_, _++_, map, flatten, append-assoc}
-use lib.ListN.{length, getD, take, drop, length-append, length-map}
+use mathlib.Core.List.{List, [], _∷_, map}
+use lib.ListN.{length, getD, length-map}
 use lib.Dec.{eqb}
-use borrow.Author.Tests.{eqb-true, eqb-false}
-use Rattle.base.specs.Lists.{build, part, any, member, indexOf, total, placesFrom, stepsFrom, All}
-use Rattle.base.specs.Lists.{Below}
-use Rattle.base.proofs.ListLaws.{by-test, length-build, all-build, below-at, below-nil, below-cons}
+use borrow.Author.Tests.{eqb-true}
+use Rattle.base.specs.Lists.{partEnding, any, member, indexOf, total, placesFrom, All, Below}
+use Rattle.base.proofs.AllLaws.{all-map, all-below, all-any}
+use Rattle.base.proofs.CutLaws.{parts-of-flatten}
+use Rattle.base.proofs.ListLaws.{by-test, length-build, all-build, below-at}
 use Rattle.base.proofs.GroupLaws.{map-build}
-use Rattle.base.proofs.AtLaws.{at-middle, at-part}
 use Rattle.base.proofs.StepsLaws.{length-places, last-place}
-use Rattle.base.proofs.Tests.{absurd-test, or-neither, neither-or}
+use Rattle.base.proofs.Tests.{absurd-test, neither-or}
 use Rattle.dna.specs.Reference.{alphabet, letterOfCode}
 use Rattle.dna.specs.Sizes.{lengthInvalid}
 use Rattle.tokens.proofs.OneCount.{count-one}
@@ -41,13 +41,11 @@ code-back letter h =
     (λ n.
     absurd-test (sym h ∙ neither-or _ _ a (neither-or _ _ c (neither-or _ _ g (neither-or _ _ t (neither-or _ _ n refl))))))))))
 
-read-below : (read : List ℕ) → All (λ letter. member letter alphabet ≡ true) read → Below 5 (map codeOfLetter read)
-read-below [] h = below-nil 5
-read-below (letter ∷ read) h = below-cons _ _ (code-back letter (h .0) .0) (read-below read (h .1))
-
 reads-below : (reads : List (List ℕ)) → All (λ read. All (λ letter. member letter alphabet ≡ true) read) reads → All (Below 5) (codesOf reads)
-reads-below [] h = tt
-reads-below (read ∷ reads) h = (read-below read (h .0), reads-below reads (h .1))
+reads-below reads h =
+    let valid : ℕ → Type 0 = λ letter. member letter alphabet ≡ true in
+    all-map (All valid) (Below 5) (map codeOfLetter)
+    (λ read g. all-below 5 (map codeOfLetter read) (all-map valid (λ code. code < 5) codeOfLetter (λ letter k. code-back letter k .0) read g)) reads h
 
 read-back : (read : List ℕ) → All (λ letter. member letter alphabet ≡ true) read → map letterOfCode (map codeOfLetter read) ≡ read
 read-back [] h = refl
@@ -63,44 +61,6 @@ pub codes-lengths : (reads : List (List ℕ)) → map length (codesOf reads) ≡
 codes-lengths [] = refl
 codes-lengths (read ∷ reads) = ap₂ _∷_ (length-map read codeOfLetter) (codes-lengths reads)
 
--- ---- Ends
-
--- Ends that rise by lengths are where those lead.
-pub places-of-steps : (start : ℕ) (places : List ℕ) → any lengthInvalid (stepsFrom start places) ≡ false
-    → placesFrom start (stepsFrom start places) ≡ places
-unfolding placesFrom stepsFrom any lengthInvalid
-places-of-steps start [] h = refl
-places-of-steps start (place ∷ places) h =
-    let parts = or-neither (lengthInvalid (place - start)) _ h in
-    let some : 0 < place - start = (let ne = eqb-false (place - start) 0 (or-neither (eqb (place - start) 0) _ (parts .0) .0) in omega arith) in
-    let back : start + (place - start) ≡ place = omega arith in
-    rw back (ap (λ (rest : List ℕ). place ∷ rest) (places-of-steps place places (parts .1)))
-
--- ---- Cutting the letters into reads
-
--- Read i of the letters, by the end before it and its own.
-cut : (letters : List ℕ) (start : ℕ) (ends : List ℕ) (i : ℕ) → List ℕ
-cut letters start ends i = part letters (getD (start ∷ ends) i 0) (getD ends i 0 - getD (start ∷ ends) i 0)
-
-cut-first : (before read rest : List ℕ) → part (before ++ (read ++ rest)) (length before) (length before + length read - length before) ≡ read
-cut-first before read rest =
-    let size : length before + length read - length before ≡ length read = omega arith in
-    ap (λ (n : ℕ). take n (drop (length before) (before ++ (read ++ rest)))) size ∙ at-part read (at-middle before read rest)
-
-cut-reads : (before : List ℕ) (reads : List (List ℕ)) (start : ℕ) → start ≡ length before
-    → build (length reads) (cut (before ++ flatten reads) start (placesFrom start (map length reads))) ≡ reads
-unfolding build flatten placesFrom cut
-cut-reads before [] start e = refl
-cut-reads before (read ∷ reads) start e =
-    let next : start + length read ≡ length (before ++ read) = omega (arith, length-append before read) in
-    let again : build (length reads) (cut ((before ++ read) ++ flatten reads) (start + length read) (placesFrom (start + length read) (map length reads))) ≡ reads
-    = cut-reads (before ++ read) reads (start + length read) next in
-    ap₂ _∷_
-    (ap (λ (n : ℕ). part (before ++ (read ++ flatten reads)) n (n + length read - n)) e ∙ cut-first before read (flatten reads))
-    (ap (λ (whole : List ℕ). build (length reads) (cut whole (start + length read) (placesFrom (start + length read) (map length reads))))
-    (sym (append-assoc before read (flatten reads)))
-    ∙ again)
-
 -- ---- From reads to what the writer takes
 
 pub ends-count : (reads names : List (List ℕ)) (input : EncodeInput) → Writable reads names input → length (input .ends) ≡ length reads
@@ -108,18 +68,15 @@ ends-count reads names input w = ap length (w .ends-are) ∙ length-places 0 (ma
 
 -- The reads of the input are those that were lent.
 pub reads-of-input : (reads names : List (List ℕ)) (input : EncodeInput) → Writable reads names input → readsOfInput input ≡ codesOf reads
-unfolding readsOfInput cut
+unfolding readsOfInput
 reads-of-input reads names input w =
-    sym (map-build (map codeOfLetter) (length (input .ends)) (cut (input .letters) 0 (input .ends)))
-    ∙ ap (map (map codeOfLetter))
-    (ap (λ (n : ℕ). build n (cut (input .letters) 0 (input .ends))) (ends-count reads names input w)
-    ∙ ap₂ (λ (letters ends : List ℕ). build (length reads) (cut letters 0 ends)) (w .letters-are) (w .ends-are)
-    ∙ cut-reads [] reads 0 refl)
+    sym (map-build (map codeOfLetter) (length (input .ends)) (partEnding (input .letters) (input .ends)))
+    ∙ ap (map (map codeOfLetter)) (parts-of-flatten (input .letters) (input .ends) reads (w .letters-are) (w .ends-are))
 
 pub all-valid : (reads : List (List ℕ)) → All (λ read. lengthInvalid (length read) ≡ false) reads → any lengthInvalid (map length reads) ≡ false
-unfolding any
-all-valid [] h = refl
-all-valid (read ∷ reads) h = neither-or _ _ (h .0) (all-valid reads (h .1))
+all-valid reads h =
+    all-any lengthInvalid (map length reads)
+    (all-map (λ read. lengthInvalid (length read) ≡ false) (λ size. lengthInvalid size ≡ false) length (λ read k. k) reads h)
 
 total-small : (reads names : List (List ℕ)) (input : EncodeInput) → LentFits input → Writable reads names input → total (map length reads) < 2 ^ 32
 total-small reads names input lent w =

@@ -10,7 +10,7 @@ use lib.Dec.{eqb}
 use borrow.Author.Needs.{needs}
 use Rattle.base.specs.Lists.{any, stepsFrom}
 use Rattle.base.proofs.AnyLaws.{any-step-found, any-step-passed, any-step-past}
-use Rattle.tokens.specs.WrittenNames.{nameLengthInvalid}
+use Rattle.tokens.specs.Split.{nameLengthInvalid}
 use Rattle.names_writer.proofs.RefusedLaws.{ends-refused, ends-last}
 use Rattle.names_writer.proofs.refused.name_ends_invalid.Statement.{statement}
 use Rattle.names_writer.proofs.refused.name_ends_invalid.Tie as tie
