@@ -93,7 +93,8 @@ fn run_flags() {
     );
 }
 
-// 15: past the last base, by a position, a step from 8, and on the reverse strand; in read 8 too.
+// 15: past the last base, by a position, a step from 8, and on the reverse strand; below 0, by a
+// reverse local read; in read 8 too.
 fn run_places() {
     run_four(b"15 perfect", b"\xc0\xc0\x00\x80\x07\x00\x09\x00\x00\x00");
     run_four(b"15 reverse", b"\xc0\x80\x00\x80\x07\x00\x09\x00\x00\x00");
@@ -105,6 +106,10 @@ fn run_places() {
     run_four(
         b"15 local",
         b"\x80\xc0\x00\x80\x07\x00\x00\x0a\x00\x00\x00\x00\x01\x00",
+    );
+    run_four(
+        b"15 reverse local below 0",
+        b"\x80\x80\x00\x80\x07\x00\x00\x01\x00\x00\x00\x00\x01\x00",
     );
     run_four(
         b"15 position 2^32 - 1",

@@ -9,7 +9,7 @@
 //    4 reverse perfect at 6     CAAC
 //    5 local at 0               TACGA
 //    6 perfect, step 8, at 8    TNCN
-//    7 reverse local at 6       TCAGCG    1 entry, a difference
+//    7 reverse local, up to 6   TCCTTG    1 entry, a difference
 //    8 perfect, step 0, at 6    GTTGCA
 //    9 raw                      GANTA
 //   10 reverse, step 2, at 8    GCT       2 entries, one of them a filler
@@ -82,7 +82,7 @@ fn put_first_group(dna: &mut [u8]) {
     );
     put_bytes_at(b"\x06\x00\x00\x00\x00\x00\x00\x00\x00\x01\x01\xc0", dna, 16);
     put_bytes_at(
-        b"\x08\x00\x02\x01\x00\x02\x00\x08\x06\x00\x00\x00\x06\x02\x01\xd8",
+        b"\x08\x00\x02\x01\x00\x02\x00\x08\x06\x00\x00\x00\x07\x02\x01\xd8",
         dna,
         28,
     );

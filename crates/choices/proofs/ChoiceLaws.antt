@@ -9,15 +9,16 @@ use lib.Dec.{leb, eqb}
 use borrow.Author.Tests.{eq-eqb, ne-eqb, lt-ltb, le-ltb, le-leb, lt-leb}
 use Rattle.base.proofs.ListLaws.{by-order, by-test}
 use Rattle.base.proofs.Tests.{both-and}
-use Rattle.dna.specs.Reference.{referenceSizeWrong}
+use Rattle.dna.specs.Reference.{maxReferenceBases, referenceSizeWrong}
 use Rattle.dna.specs.Record.{maxEntries, maxNPositions, Entry}
 use Rattle.dna.specs.RecordAt.{entriesAt}
 use Rattle.dna.specs.declared.Placement.{Placement}
 use Rattle.dna.specs.declared.Record.{Record}
 use Rattle.dna.specs.declared.Record.the-variants as kinds
-use Rattle.format.specs.RuleRecord.{Candidate, nOffsetsOf, candidateEntries, placeUsed, Choice}
-use Rattle.format.specs.RuleRecord.{chooseRaw4, chooseAligned, chooseRaw, choiceFor, isPerfect}
-use Rattle.format.specs.RuleRecord.{writtenAs, written}
+use Rattle.format.specs.RuleRecord.{Candidate, nOffsetsOf, alignedCount, candidateEntries}
+use Rattle.format.specs.RuleRecord.{placeUsed, storedPosition, Choice, chooseRaw4, chooseAligned}
+use Rattle.format.specs.RuleRecord.{chooseRaw, choiceFor, isPerfect, writtenAs, written}
+use Rattle.format.proofs.WrittenRecord.{stored-inside}
 use Rattle.letter_packing.specs.Read.{ReadLies, codesIn}
 use Rattle.letter_packing.proofs.ReadLaws.{length-codesIn}
 use Rattle.mismatches.specs.Entries.{answeredCount, EntriesPut}
@@ -31,34 +32,35 @@ use Rattle.choices.proofs.PlaceLaws.{fits-inside, used-fits, stretch-fi
 
 -- ---- The record at a place
 
-module _ (candidate : Candidate) (entries : ℕ) (placement : Placement)
-    (is : placement ≡ placementOf candidate) where
+module _ (codes : List ℕ) (candidate : Candidate) (entries : ℕ) (placement : Placement)
+    (is : placement ≡ placementOf codes candidate) where
   pub record-local : 0 < candidate .left + candidate .right
-      → kinds.Local placement ≡ alignedRecord candidate entries
+      → kinds.Local placement ≡ alignedRecord codes candidate entries
   unfolding alignedRecord
   record-local some =
       rw (ne-eqb (candidate .left + candidate .right) 0 (λ e. omega arith)) (ap kinds.Local is)
 
   pub record-perfect : candidate .left + candidate .right ≤ 0 → entries ≡ 0
-      → kinds.Perfect placement ≡ alignedRecord candidate entries
+      → kinds.Perfect placement ≡ alignedRecord codes candidate entries
   unfolding alignedRecord
   record-perfect none e =
       rw (eq-eqb (candidate .left + candidate .right) 0 (omega arith), eq-eqb entries 0 e)
       (ap kinds.Perfect is)
 
   pub record-global : candidate .left + candidate .right ≤ 0 → (entries ≡ 0 → ⊥)
-      → kinds.Global placement ≡ alignedRecord candidate entries
+      → kinds.Global placement ≡ alignedRecord codes candidate entries
   unfolding alignedRecord
   record-global none e =
       rw (eq-eqb (candidate .left + candidate .right) 0 (omega arith), ne-eqb entries 0 e)
       (ap kinds.Global is)
 
 -- It lies within a read between whose ends letters are left.
-kind-fits : (candidate : Candidate) (entries size : ℕ) → candidate .position < 2 ^ 32
-    → candidate .left + candidate .right < size → KindFits (alignedRecord candidate entries) size
+kind-fits : (codes : List ℕ) (candidate : Candidate) (entries size : ℕ)
+    → storedPosition codes candidate < 2 ^ 32 → candidate .left + candidate .right < size
+    → KindFits (alignedRecord codes candidate entries) size
 unfolding alignedRecord placementOf
-kind-fits candidate entries size low clips =
-    let fits : PlacementFits (placementOf candidate) size =
+kind-fits codes candidate entries size low clips =
+    let fits : PlacementFits (placementOf codes candidate) size =
     record { position = low; clips = clips } in
     by-test (eqb (candidate .left + candidate .right) 0)
     (λ t. by-test (eqb entries 0) (λ u. rw (t, u) fits) (λ u. rw (t, u) fits))
@@ -172,9 +174,9 @@ module _ (bases : ℕ) (reference letters : List ℕ) (from to : ℕ) (candidate
       }
 
   -- A place that is used.
-  aligned-chosen : count ≤ maxNPositions → used ≡ true → candidate .position < 2 ^ 32
+  aligned-chosen : count ≤ maxNPositions → used ≡ true → storedPosition codes candidate < 2 ^ 32
       → candidate .left + candidate .right < to - from → (n : ℕ) (record′ : Record)
-      → n ≡ length entries → n ≤ maxEntries → record′ ≡ alignedRecord candidate n
+      → n ≡ length entries → n ≤ maxEntries → record′ ≡ alignedRecord codes candidate n
       → entriesAt list 0 n ≡ entries
       → ChosenByRule bases reference letters from to candidate list
       (record { «record» = record′; entries = n; «n_count» = count })
@@ -188,12 +190,12 @@ module _ (bases : ℕ) (reference letters : List ℕ) (from to : ℕ) (candidate
           few = fit;
           kind =
               subst (λ (r : Record). KindFits r (to - from)) (sym is)
-              (kind-fits candidate n (to - from) low clips);
+              (kind-fits codes candidate n (to - from) low clips);
         };
         room = room;
         rule = λ previous.
             ap₂ (λ (r : Record) (es : List Entry). recordWritten bases previous r es codes)
-            (is ∙ ap (alignedRecord candidate) all) stand
+            (is ∙ ap (alignedRecord codes candidate) all) stand
             ∙ chosen-as bases reference previous codes candidate chooseAligned
             ∙ chosen chooseAligned (used-choice few t) previous;
       }
@@ -230,18 +232,22 @@ module _ (bases : ℕ) (reference letters : List ℕ) (from to : ℕ) (candidate
       → fits ≡ placeFits bases (to - from) candidate → fits ≡ true
       → referenceSizeWrong bases reference ≡ false → {old : List ℕ} {n : ℕ}
       → maxEntries ≤ length old → EntriesPut old list 0 entries n → n ≤ maxEntries
-      → (record′ : Record) → record′ ≡ alignedRecord candidate n
+      → (record′ : Record) → record′ ≡ alignedRecord codes candidate n
       → ChosenByRule bases reference letters from to candidate list
       (record { «record» = record′; entries = n; «n_count» = count })
+  unfolding alignedCount
   used-chosen few fits made yes′ right {old} {n} wide put fit record′ is =
       let all : n ≡ length entries =
       omega (arith, few-entries (0 + length entries) n (put .counted) fit) in
       let inside = fits-inside bases (to - from) candidate fits made yes′ in
       let small = stretch-fits bases reference (candidate .position) _ right (inside .1) .small in
+      let stored =
+      stored-inside maxReferenceBases codes candidate (omega (arith, size, inside .0))
+      (omega (arith, size, small)) in
       aligned-chosen few
       (used-fits bases reference codes candidate (to - from) size
       ∙ both-and _ _ (sym made ∙ yes′) (le-leb (length entries) maxEntries (omega arith)))
-      (omega arith) (inside .0) n record′ all fit is
+      (omega (arith, stored)) (inside .0) n record′ all fit is
       (ap (entriesAt list 0) all
       ∙ entries-back letters from to lies reference candidate (omega arith) old list (omega arith)
       (put .stand (omega arith)))

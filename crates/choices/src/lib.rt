@@ -11,14 +11,15 @@ use mismatches::put_entries;
 use n_lists::count_n;
 ghost use mathlib.Core.Path.{_≡_};
 ghost use mathlib.Core.Bool.{true, false, cond, _||_};
-ghost use Prim.Native.Nat.{_+_, _-_, _≤_, _<_};
+ghost use mathlib.Core.List.{List};
+ghost use Prim.Native.Nat.{ℕ, _+_, _-_, _≤_, _<_};
 ghost use lib.ListN.{length};
 ghost use lib.Dec.{eqb};
 ghost use Rattle.dna.specs.Record.{maxEntries};
 ghost use Rattle.dna.specs.Reference.{referenceSizeWrong};
 ghost use Rattle.dna.specs.Sizes.{maxReadLength};
 ghost use Rattle.dna.specs.declared.Strand.the-variants as strands;
-ghost use Rattle.format.specs.RuleRecord.{candidateEntries};
+ghost use Rattle.format.specs.RuleRecord.{candidateEntries, storedPosition};
 ghost use Rattle.letter_packing.specs.Read.{ReadLies, codesIn};
 ghost use Rattle.reference.specs.Stretch.{StretchFits};
 ghost use Rattle.reference.specs.Tables.{wordTable};
@@ -93,7 +94,7 @@ pub fn choose(
     if MAX_ENTRIES < entries {
         return raw;
     }
-    let record = aligned_record(position, strand, left, right, entries);
+    let record = aligned_record(to - from, position, strand, left, right, entries);
     Chosen {
         record: record,
         entries: entries,
@@ -170,11 +171,20 @@ fn strand_known(strand: u8) -> bool
 
 // ---- The record
 
-// The record at the place, with so many entries.
-fn aligned_record(position: u32, strand: u8, left: u8, right: u8, entries: usize) -> Record
-    ensures { λ r. ⌜ r ≡ alignedRecord (candidateOf position strand left right) entries ⌝ }
+// The record at the place of a read of `size` letters, with so many entries.
+fn aligned_record(
+    size: usize,
+    position: u32,
+    strand: u8,
+    left: u8,
+    right: u8,
+    entries: usize,
+) -> Record
+    requires { ⌜ (left + right < size) × (size ≤ maxReadLength) ⌝ }
+    ensures { λ r. ⌜ ((codes : List ℕ) → length codes ≡ size
+        → r ≡ alignedRecord codes (candidateOf position strand left right) entries) ⌝ }
 {
-    let placement = placement_of(position, strand, left, right);
+    let placement = placement_of(size, position, strand, left, right);
     if 0 < size8(left) + size8(right) {
         return Record::Local(placement);
     }
@@ -185,15 +195,35 @@ fn aligned_record(position: u32, strand: u8, left: u8, right: u8, entries: usize
 }
 
 // The candidate's place in the record.
-fn placement_of(position: u32, strand: u8, left: u8, right: u8) -> Placement
-    ensures { λ r. ⌜ r ≡ placementOf (candidateOf position strand left right) ⌝ }
+fn placement_of(size: usize, position: u32, strand: u8, left: u8, right: u8) -> Placement
+    requires { ⌜ (left + right < size) × (size ≤ maxReadLength) ⌝ }
+    ensures { λ r. ⌜ ((codes : List ℕ) → length codes ≡ size
+        → r ≡ placementOf codes (candidateOf position strand left right)) ⌝ }
 {
     Placement {
-        position: wide64(position),
+        position: stored_position(size, position, strand, left, right),
         strand: strand_of(strand),
         left: left,
         right: right,
     }
+}
+
+// The position that is stored: the candidate's or, with ends on the reverse strand, the last of
+// the stretch (02, Ticket 2).
+fn stored_position(size: usize, position: u32, strand: u8, left: u8, right: u8) -> u64
+    requires { ⌜ (left + right < size) × (size ≤ maxReadLength) ⌝ }
+    ensures { λ r. ⌜ ((codes : List ℕ) → length codes ≡ size
+        → r ≡ storedPosition codes (candidateOf position strand left right)) ⌝ }
+{
+    let lowest = wide64(position);
+    let clipped = size8(left) + size8(right);
+    if clipped == 0 {
+        return lowest;
+    }
+    if strand == 1 {
+        return lowest;
+    }
+    lowest + (size - clipped - 1) as u64
 }
 
 // The strand of a candidate's 1 or 2.

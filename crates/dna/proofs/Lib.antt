@@ -11,6 +11,7 @@ pub mod SizesComplete
 pub mod SizesSound
 pub mod RecordComplete
 pub mod RecordSound
+pub mod StretchMeans
 pub mod RulesMean
 pub mod RecordBytes
 pub mod WalkLaws

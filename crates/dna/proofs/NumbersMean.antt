@@ -17,8 +17,9 @@ use Rattle.dna.specs.RecordFaults.{raw4BitWrong, nListInvalid}
 use Rattle.dna.specs.Varint16.{varint16Words}
 use Rattle.dna.specs.Rules.{NumbersMean, WordsMean}
 use Rattle.dna.proofs.OffsetLaws.{tests-steps, steps-tests}
+use Rattle.dna.proofs.StretchMeans.{span-holds, holds-span}
 use Rattle.dna.proofs.RulesMean.{count-holds, holds-count, raw-bits, bits-raw, clips-hold}
-use Rattle.dna.proofs.RulesMean.{hold-clips, inside-span, span-inside, any-below, below-any}
+use Rattle.dna.proofs.RulesMean.{hold-clips, any-below, below-any}
 use Rattle.dna.proofs.RulesMean.{zero-below, below-zero, raw4-bit, bit-raw4, nList-holds}
 use Rattle.dna.proofs.RulesMean.{holds-nList, clear}
 
@@ -33,7 +34,7 @@ numbers-mean context stored =
     record {
       thirteen = (λ e. raw-bits context fields (lone _ .0 e), λ h. lone _ .1 (bits-raw context fields h));
       fourteen = (λ e. count-holds context fields (lone _ .0 e), λ h. lone _ .1 (holds-count context fields h));
-      fifteen = (λ e. inside-span context fields (lone _ .0 e), λ h. lone _ .1 (span-inside context fields h));
+      fifteen = (λ e. span-holds context fields (lone _ .0 e), λ h. lone _ .1 (holds-span context fields h));
       sixteen = (λ e. clips-hold context fields (lone _ .0 e), λ h. lone _ .1 (hold-clips context fields h));
       seventeen = (
         λ e.

@@ -1,6 +1,6 @@
 -- None of 13 to 20 fits a record exactly if the rules hold of it. Assumes nothing.
 use mathlib.Core.Path.{_≡_, refl, ap, _∙_}
-use Prim.Native.Nat.{ℕ, suc, _+_, _*_, _/_, _%_, _≤_, _<_}
+use Prim.Native.Nat.{ℕ, suc, _+_, _*_, _/_, _%_, _≤_}
 use native.Mathlib.Omega.{arith}
 use mathlib.Core.Bool.{Bool, true, false, not, _&&_, _||_, Bool·beq}
 use mathlib.Core.Logic.{_↔_}
@@ -18,17 +18,17 @@ use Rattle.base.proofs.Tests.{or-neither, neither-or, and-first, not-false, tru
 use Rattle.base.proofs.Tests.{same-beq}
 use Rattle.dna.specs.Record.{ReadContext, RecordFields, perfect, global, local, raw, raw4}
 use Rattle.dna.specs.Record.{StoredRecord, flagByteOf, hasNList}
-use Rattle.dna.specs.Alignment.{isAligned, entriesOf, alignedLength, leftmost, entryPlaces}
-use Rattle.dna.specs.Alignment.{nPositions}
+use Rattle.dna.specs.Alignment.{isAligned, entriesOf, alignedLength, entryPlaces, nPositions}
 use Rattle.dna.specs.RecordFaults.{raw4Codes, paddingOf, rawBitStray, recordFlagInvalid}
 use Rattle.dna.specs.RecordFaults.{spanOutside, clipsInvalid, laterZero, entryOffsetInvalid}
 use Rattle.dna.specs.RecordFaults.{baseCodeInvalid, paddingNonzero, raw4BitWrong}
 use Rattle.dna.specs.RecordFaults.{nCountInvalid, nListInvalid, fieldFaults, recordFaults}
 use Rattle.dna.specs.Division.{GroupFlags, groupBitStray}
-use Rattle.dna.specs.Rules.{Steps, CountHolds, ClipsHold, Raw4BitHolds, NListHolds, RulesHold}
+use Rattle.dna.specs.Rules.{CountHolds, ClipsHold, Raw4BitHolds, NListHolds, RulesHold}
 use Rattle.dna.specs.Rules.{GroupBitsHold}
 use Rattle.dna.proofs.OffsetLaws.{tests-steps, steps-tests}
 use Rattle.dna.proofs.RecordComplete.{Faultless, faults-parts, parts-faults}
+use Rattle.dna.proofs.StretchMeans.{span-holds, holds-span}
 
 -- ---- Each test and its rule
 
@@ -120,21 +120,6 @@ hold-clips context (local field entries left right clipped) h =
 hold-clips context (raw letters) h = refl
 hold-clips context (raw4 letters) h = refl
 
-pub inside-span : (context : ReadContext) (fields : RecordFields) → spanOutside context fields ≡ false → isAligned fields ≡ true
-    → leftmost context fields + alignedLength context fields ≤ context .referenceBases
-unfolding spanOutside
-inside-span context fields e is = ltb-false (context .referenceBases) _ (and-first (isAligned fields) _ e is)
-
-pub span-inside : (context : ReadContext) (fields : RecordFields)
-    → (isAligned fields ≡ true → leftmost context fields + alignedLength context fields ≤ context .referenceBases)
-    → spanOutside context fields ≡ false
-unfolding spanOutside
-span-inside context fields h =
-    let outside : Bool = ltb (context .referenceBases) (leftmost context fields + alignedLength context fields) in
-    by-test (isAligned fields)
-    (λ t. ap (λ (b : Bool). b && outside) t ∙ le-ltb (context .referenceBases) (leftmost context fields + alignedLength context fields) (h t))
-    (λ t. ap (λ (b : Bool). b && outside) t)
-
 pub any-below : (bound : ℕ) (list : List ℕ) → any (λ x. ltb bound x) list ≡ false → Below (suc bound) list
 unfolding any
 any-below bound [] e = below-nil (suc bound)
@@ -218,7 +203,7 @@ faultless-rules context stored parts =
       count = count-holds context fields (parts .flag);
       rawBits = raw-bits context fields (f₁₃ .0);
       clips = clips-hold context fields (f₁₆ .0);
-      inside = inside-span context fields (f₁₅ .0);
+      inside = span-holds context fields (f₁₅ .0);
       entries = tests-steps (alignedLength context fields) _ (steps .0) (steps .1);
       codes = any-below 4 (raw4Codes fields) (f₁₈ .0);
       padding = zero-below (paddingOf fields) (f₁₉ .0);
@@ -236,7 +221,7 @@ rules-faultless context stored rules =
       fields =
           neither-or _ _ (bits-raw context fields (rules .rawBits))
           (neither-or _ _ (hold-clips context fields (rules .clips))
-          (neither-or _ _ (span-inside context fields (rules .inside))
+          (neither-or _ _ (holds-span context fields (rules .inside))
           (neither-or _ _ (neither-or _ _ (steps .0) (steps .1))
           (neither-or _ _ (below-any 4 (raw4Codes fields) (rules .codes))
           (neither-or _ _ (below-zero (paddingOf fields) (rules .padding))

@@ -37,8 +37,10 @@ table-answered =
     (refl, (refl, (refl, (refl, (refl, (refl, (refl, tt))))))) in
     let starred : All RowAnswered rows =
     (refl, (refl, (refl, (refl, (refl, (refl, (refl, after-7))))))) in
+    let after-20 : All FurtherRight (drop 20 furtherRows) =
+    (refl, (refl, (refl, (refl, (refl, (refl, (refl, tt))))))) in
     let after-10 : All FurtherRight (drop 10 furtherRows) =
-    (refl, (refl, (refl, (refl, (refl, (refl, (refl, (refl, (refl, tt))))))))) in
+    (refl, (refl, (refl, (refl, (refl, (refl, (refl, (refl, (refl, (refl, after-20)))))))))) in
     let further : All FurtherRight furtherRows =
     (refl, (refl, (refl, (refl, (refl, (refl, (refl, (refl, (refl, (refl, after-10)))))))))) in
     (starred, further, λ context stored. refl)

@@ -19,7 +19,7 @@ use Rattle.dna.specs.Sizes.{firstIsSame}
 use Rattle.dna.specs.Record.{ReadContext, StoredRecord, fieldWidth, entryByte, packedBytes}
 use Rattle.dna.specs.Record.{flagByteOf, fieldsBytes, hasNList, nListBytes, recordBytes}
 use Rattle.dna.specs.Alignment.{isAligned, fieldOf, entriesOf, leftOf, rightOf, alignedLength}
-use Rattle.dna.specs.Alignment.{position, positionAfter, leftmost, referenceIndex}
+use Rattle.dna.specs.Alignment.{position, positionAfter, isLocal, runsDown, leftmost, referenceIndex}
 use Rattle.dna.specs.Alignment.{entryPlaces, nPositions}
 use Rattle.dna.specs.RecordFaults.{raw4Codes, paddingOf, rawBitStray, recordFlagInvalid}
 use Rattle.dna.specs.RecordFaults.{spanOutside, clipsInvalid, laterZero, anyOutside}
@@ -43,7 +43,7 @@ unfolding build any member indexOf countTrue placesFrom flatMap
     varint16Words varint16Bytes isSame isInByte storedBytes sizeGroupBytes sizeSectionBytes
     lengthsFrom lengthInvalid firstIsSame
     fieldWidth entryByte packedBytes flagByteOf fieldsBytes hasNList nListBytes recordBytes
-    isAligned fieldOf entriesOf leftOf rightOf alignedLength position positionAfter leftmost
+    isAligned fieldOf entriesOf leftOf rightOf alignedLength position positionAfter isLocal runsDown leftmost
     referenceIndex entryPlaces nPositions
     raw4Codes paddingOf rawBitStray recordFlagInvalid spanOutside clipsInvalid laterZero anyOutside
     entryOffsetInvalid baseCodeInvalid paddingNonzero raw4BitWrong nCountInvalid nListInvalid

@@ -1,8 +1,8 @@
--- Where an aligned read lies (01, Records: position, reverse reads, offsets). Three numbers are
--- kept apart: the field, as stored; the position, which the next read's step adds to; and the
--- leftmost index of the aligned stretch.
+-- Where an aligned read lies (01, Records: position, reverse reads, offsets; 02, Ticket 2). Three
+-- numbers are kept apart: the field, as stored; the position, which the next read's step adds to;
+-- and the leftmost index of the aligned stretch.
 use Prim.Native.Nat.{ℕ, _+_, _-_}
-use mathlib.Core.Bool.{Bool, true, false, cond}
+use mathlib.Core.Bool.{Bool, true, false, cond, not, _&&_}
 use mathlib.Core.List.{List, [], map}
 use Rattle.base.specs.Lists.{placesFrom}
 use Rattle.dna.specs.Reference.{stretchIndex}
@@ -59,15 +59,31 @@ unfoldable pub position : (context : ReadContext) (fields : RecordFields) → �
 position context fields =
     cond (context .incremental) (context .previousPosition) 0 + fieldOf fields
 
--- The position that the next read's step adds to: a record without a place keeps the one before it.
+-- Whether the record is a local one.
+unfoldable pub isLocal : (fields : RecordFields) → Bool
+isLocal (perfect field) = false
+isLocal (global field entries) = false
+isLocal (local field entries left right clipped) = true
+isLocal (raw letters) = false
+isLocal (raw4 letters) = false
+
+-- Whether the aligned stretch ends at the position and runs down from it (02, Ticket 2): that of a
+-- reverse local record alone.
+unfoldable pub runsDown : (context : ReadContext) (fields : RecordFields) → Bool
+runsDown context fields = isLocal fields && not (context .forward)
+
+-- The lowest reference index of the aligned stretch: the position, or, where the stretch ends
+-- there, the aligned length less one below it. 15 refuses what would start below 0.
+unfoldable pub leftmost : (context : ReadContext) (fields : RecordFields) → ℕ
+leftmost context fields =
+    cond (runsDown context fields)
+    (position context fields + 1 - alignedLength context fields) (position context fields)
+
+-- The position that the next read's step adds to (02, Ticket 2: steps use the stored position): a
+-- record without a place keeps the one before it.
 unfoldable pub positionAfter : (context : ReadContext) (fields : RecordFields) → ℕ
 positionAfter context fields =
     cond (isAligned fields) (position context fields) (context .previousPosition)
-
--- The lowest reference index of the aligned stretch (01: its position), for both strands and every
--- kind.
-unfoldable pub leftmost : (context : ReadContext) (fields : RecordFields) → ℕ
-leftmost context fields = position context fields
 
 -- The reference index under aligned letter k, counted as the read is printed.
 unfoldable pub referenceIndex : (context : ReadContext) (fields : RecordFields) (k : ℕ) → ℕ

@@ -1,6 +1,6 @@
 -- The faults 13 to 20 of a record (01, Records and Numbers of refusal), each from its sentence.
 use Prim.Native.Nat.{ℕ, _+_, _/_}
-use mathlib.Core.Bool.{Bool, false, not, _&&_, _||_, Bool·beq}
+use mathlib.Core.Bool.{Bool, false, not, cond, _&&_, _||_, Bool·beq}
 use mathlib.Core.List.{List, [], _∷_, _++_, map}
 use lib.ListN.{length}
 use lib.Dec.{leb, ltb, eqb}
@@ -10,8 +10,8 @@ use Rattle.base.specs.Faults.{Fault, fault}
 use Rattle.dna.specs.Reference.{codeN}
 use Rattle.dna.specs.Record.{maxNPositions, ReadContext, RecordFields, perfect, global, local}
 use Rattle.dna.specs.Record.{raw, raw4, StoredRecord, flagByteOf, hasNList}
-use Rattle.dna.specs.Alignment.{isAligned, entriesOf, alignedLength, leftmost, entryPlaces}
-use Rattle.dna.specs.Alignment.{nPositions}
+use Rattle.dna.specs.Alignment.{isAligned, entriesOf, alignedLength, position, runsDown}
+use Rattle.dna.specs.Alignment.{entryPlaces, nPositions}
 
 -- The codes of a raw4 record; none in any other.
 unfoldable pub raw4Codes : (fields : RecordFields) → List ℕ
@@ -47,11 +47,15 @@ recordFlagInvalid flag =
 abbrev pub flagByteInvalid : (context : ReadContext) (fields : RecordFields) → Bool
 flagByteInvalid context fields = not (context .perfectBit) && recordFlagInvalid (flagByteOf fields)
 
--- 15: the aligned stretch is not inside the reference.
+-- 15: the aligned stretch is not inside the reference: it passes the last base or, where it runs
+-- down from its position, would start below 0 (02, Ticket 2).
 unfoldable pub spanOutside : (context : ReadContext) (fields : RecordFields) → Bool
 spanOutside context fields =
     isAligned fields
-    && ltb (context .referenceBases) (leftmost context fields + alignedLength context fields)
+    && cond (runsDown context fields)
+    (leb (context .referenceBases) (position context fields)
+    || ltb (position context fields + 1) (alignedLength context fields))
+    (ltb (context .referenceBases) (position context fields + alignedLength context fields))
 
 -- 16: left and right of a local record: together at least 1 and below the read's length.
 unfoldable pub clipsInvalid : (context : ReadContext) (fields : RecordFields) → Bool

@@ -1,10 +1,10 @@
 -- What the rules say (01, Records), in propositions, a field for each sentence on what is accepted.
 -- They hold of a record, and of a group's bytes, exactly if none of 13 to 20 fits
--- (proofs/RulesMean.antt), each number by its own rule (proofs/NumbersMean.antt). Steps hold of
--- every division (proofs/StepsMean.antt). Counts are those of what is printed, and totals
--- (proofs/CountsMean.antt).
+-- (proofs/RulesMean.antt), each number by its own rule (proofs/NumbersMean.antt). Where a stretch
+-- lies is proofs/StretchMeans.antt. Steps hold of every division (proofs/StepsMean.antt). Counts
+-- are those of what is printed, and totals (proofs/CountsMean.antt).
 use mathlib.Core.Path.{_≡_}
-use Prim.Native.Nat.{ℕ, _+_, _*_, _≤_, _<_}
+use Prim.Native.Nat.{ℕ, suc, _+_, _*_, _≤_, _<_}
 use mathlib.Core.Bool.{Bool, true, false, _&&_}
 use mathlib.Core.Logic.{_↔_}
 use mathlib.Core.List.{List, [], _∷_, _++_, map}
@@ -15,8 +15,8 @@ use Rattle.base.specs.Packed.{bit}
 use Rattle.dna.specs.Reference.{strandBase, codeN, letterOfCode}
 use Rattle.dna.specs.Record.{ReadContext, RecordFields, perfect, global, local, raw, raw4}
 use Rattle.dna.specs.Record.{StoredRecord, hasNList}
-use Rattle.dna.specs.Alignment.{isAligned, entriesOf, leftOf, alignedLength, leftmost}
-use Rattle.dna.specs.Alignment.{position, referenceIndex, entryPlaces}
+use Rattle.dna.specs.Alignment.{isAligned, fieldOf, entriesOf, leftOf, alignedLength}
+use Rattle.dna.specs.Alignment.{position, leftmost, referenceIndex, entryPlaces}
 use Rattle.dna.specs.Varint16.{varint16Words}
 use Rattle.dna.specs.RecordFaults.{raw4Codes, paddingOf, recordFaults}
 use Rattle.dna.specs.Letters.{recordLetters}
@@ -66,11 +66,48 @@ abbrev pub RawBitsHold : (context : ReadContext) (fields : RecordFields) → Typ
 RawBitsHold context fields =
     isAligned fields ≡ false → (context .forward ≡ false) × (context .incremental ≡ false)
 
--- The aligned stretch is inside the reference.
+-- A local record of the reverse strand.
+abbrev pub ReverseLocal : (context : ReadContext) (fields : RecordFields) → Type 0
+ReverseLocal context (perfect field) = ⊥
+ReverseLocal context (global field entries) = ⊥
+ReverseLocal context (local field entries left right clipped) = context .forward ≡ false
+ReverseLocal context (raw letters) = ⊥
+ReverseLocal context (raw4 letters) = ⊥
+
+-- The aligned stretch is inside the reference: from the position up, and that of a reverse local
+-- record from the position down (02, Ticket 2).
 abbrev pub SpanHolds : (context : ReadContext) (fields : RecordFields) → Type 0
 SpanHolds context fields =
     isAligned fields ≡ true
-    → leftmost context fields + alignedLength context fields ≤ context .referenceBases
+    → ((ReverseLocal context fields → ⊥)
+    → position context fields + alignedLength context fields ≤ context .referenceBases)
+    × (ReverseLocal context fields
+    → (position context fields < context .referenceBases)
+    × (alignedLength context fields ≤ position context fields + 1))
+
+-- Where the aligned stretch lies: its lowest index, and the index under aligned letter k of the
+-- read as printed.
+pub record StretchHolds (context : ReadContext) (fields : RecordFields) : Type 0 where
+  -- The position is the field; with pos_t set the field is added to the position before.
+  pub whole : context .incremental ≡ false → position context fields ≡ fieldOf fields
+  pub stepped : context .incremental ≡ true
+      → position context fields ≡ context .previousPosition + fieldOf fields
+  -- The stretch of a reverse local record ends at the position and runs down (02, Ticket 2).
+  pub ends : ReverseLocal context fields → SpanHolds context fields
+      → leftmost context fields + alignedLength context fields ≡ position context fields + 1
+  pub down : ReverseLocal context fields → SpanHolds context fields
+      → (k : ℕ) → k < alignedLength context fields
+      → referenceIndex context fields k + k ≡ position context fields
+  -- For every other kind and strand the position is the lowest index; a reverse read takes the
+  -- stretch reversed.
+  pub others : (ReverseLocal context fields → ⊥)
+      → leftmost context fields ≡ position context fields
+  pub up : context .forward ≡ true → (k : ℕ)
+      → referenceIndex context fields k ≡ position context fields + k
+  pub reversed : (ReverseLocal context fields → ⊥) → context .forward ≡ false
+      → (k : ℕ) → k < alignedLength context fields
+      → referenceIndex context fields k + suc k
+      ≡ position context fields + alignedLength context fields
 
 -- Entries stand in the aligned part, each after the one before.
 abbrev pub EntriesHold : (context : ReadContext) (fields : RecordFields) → Type 0

@@ -10,9 +10,9 @@ pub enum Strand {
     Reverse,
 }
 
-// Where an aligned read lies on the reference (01: a place): the position as 01 defines it, exact
-// and never wrapped; the strand; and the letters clipped at each end, 0 where the whole read is
-// aligned.
+// Where an aligned read lies on the reference (01: a place): its position, exact and never wrapped,
+// where the stretch begins or, of a reverse local record, ends (02, Ticket 2); the strand; and the
+// letters clipped at each end, 0 where the whole read is aligned.
 pub struct Placement {
     pub position: u64,
     pub strand: Strand,

@@ -17,6 +17,7 @@ use Rattle.base.proofs.ListLaws.{by-test, length-build}
 use Rattle.base.proofs.AnswerLaws.{cond-yes, cond-no}
 use Rattle.base.proofs.GroupLaws.{length-flatten}
 use Rattle.base.proofs.StepsLaws.{length-stepsFrom, steps-of-places}
+use Rattle.dna.specs.Reference.{ReferenceFits}
 use Rattle.dna.specs.Counts.{zeroCounts}
 use Rattle.dna.specs.Sizes.{lengthInvalid}
 use Rattle.tokens.specs.WrittenNames.{namesLent, namesRefused, writtenNames}
@@ -35,6 +36,7 @@ use Rattle.format.proofs.WrittenWellFormed.{RuleFits}
 use Rattle.format.proofs.WritesBlocks.Inputs.{codes-lengths, ends-count, reads-of-input, rule-fits}
 use Rattle.format.proofs.WritesBlocks.Accepted.{zero-writable}
 use Rattle.dna_writer.specs.Lent.{lentReads, lentNumber}
+use Rattle.dna_writer.proofs.LentLaws.{well-lent}
 use Rattle.dna_writer.specs.Section.{recordsOf, dnaBytes, nBytes}
 
 -- ---- The number
@@ -155,11 +157,12 @@ unfolding namesLent
 names-count bytes ends = length-build (length ends) _
 
 fits-of : (bases : ℕ) (reference : List ℕ) (input : EncodeInput) (reads names : List (List ℕ))
-    → LentFits input → Writable reads names input → InputFits bases reference input
+    → ReferenceFits bases reference → LentFits input → Writable reads names input
+    → InputFits bases reference input
 unfolding dnaBytes nBytes writtenDivision readsOfInput candidatesOf
-fits-of bases reference input reads names typed w =
-    let r : RuleFits (input .id) (input .time) (codesOf reads) names (candidatesOf input) =
-    rule-fits reads names input typed w in
+fits-of bases reference input reads names sized typed w =
+    let r : RuleFits bases (input .id) (input .time) (codesOf reads) names (candidatesOf input) =
+    rule-fits bases reference reads names input sized typed w in
     let codes : readsOfInput input ≡ codesOf reads = reads-of-input reads names input w in
     let small : SectionsSmall bases reference (readsOfInput input) (candidatesOf input) =
     subst (λ (list : List (List ℕ)). SectionsSmall bases reference list (candidatesOf input))
@@ -212,4 +215,5 @@ input-fits bases reference input typed none named =
     zero-writable bases reference plainly out
     (ap (λ (o : Outcome). o .number)
     (sym (answer-written bases reference plainly out 0 zero′ refl .0))) in
-    fits-of bases reference plainly (found .0) (found .1) typed (found .2)
+    fits-of bases reference plainly (found .0) (found .1)
+    (record { fits = well-lent bases reference (plain input) none .sized }) typed (found .2)

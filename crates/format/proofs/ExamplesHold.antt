@@ -40,7 +40,8 @@ use Rattle.format.specs.EncodeAnswer.{readsOfInput, candidatesOf, blockO
 use Rattle.format.specs.Examples.{fifthRow, blockWith, listingBlock, leftOverBlock}
 use Rattle.format.specs.Examples.{listingDivided, smallBuffers, ListingRight}
 use Rattle.format.specs.Examples.{longReference, shifted}
-use Rattle.format.specs.Examples.{turnedRead, placeAt, sevenReads, sevenBlock, RuleRight}
+use Rattle.format.specs.Examples.{turnedRead, placeAt, clippedAt, endsTA, sevenReads}
+use Rattle.format.specs.Examples.{sevenBlock, RuleRight}
 
 -- All that a block's answer computes with: to unfold this is to unfold each.
 unfoldable answering : Unit {0}
@@ -99,11 +100,11 @@ listing-right =
 
 -- All that the fixed rule computes with.
 unfoldable writing : Unit {0}
-unfolding computed naming keep placesWhere stepsFrom total flatten nOffsetsOf fillerCount gapEntries entriesOfGaps differsAt gapsTo gapsOf padded withoutN alignedCount expectedAt candidateGaps candidateEntries clippedCodes placeUsed storedPosition stepFits fieldFor alignedFields choiceFor isPerfect writtenAs written writtenFrom codeOfLetter writtenGroup writtenDivision writtenNSection storedFrom allEqual writtenSizes int32Bytes headerBytes headerWith writtenHeader writtenBlock ruleBlock readsOfInput candidatesOf blockOf longReference shifted turnedRead placeAt sevenReads sevenBlock
+unfolding computed naming keep placesWhere stepsFrom total flatten nOffsetsOf fillerCount gapEntries entriesOfGaps differsAt gapsTo gapsOf padded withoutN alignedCount expectedAt candidateGaps candidateEntries clippedCodes placeUsed storedPosition stepFits fieldFor alignedFields choiceFor isPerfect writtenAs written writtenFrom codeOfLetter writtenGroup writtenDivision writtenNSection storedFrom allEqual writtenSizes int32Bytes headerBytes headerWith writtenHeader writtenBlock ruleBlock readsOfInput candidatesOf blockOf longReference shifted turnedRead placeAt clippedAt endsTA sevenReads sevenBlock
 writing = tt
 
--- The fixed rule writes 31 entries, puts 32 into a raw record, fills on the strand of the read, and makes this block of
--- seven reads.
+-- The fixed rule writes 31 entries, puts 32 into a raw record, fills on the strand of the read, stores a reverse read with
+-- ends where its stretch ends, and makes this block of seven reads.
 pub rule-right : RuleRight
 unfolding writing
-rule-right = record { entries = refl; block = refl; step-65535 = refl; step-65536 = refl }
+rule-right = record { entries = refl; reverse-clipped = refl; block = refl; step-65535 = refl; step-65536 = refl }

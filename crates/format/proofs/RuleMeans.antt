@@ -31,7 +31,7 @@ use Rattle.tokens.specs.WrittenNames.{namesLent}
 use Rattle.tokens.proofs.NamesLent.{names-lent, lent-names}
 use Rattle.format.specs.RuleEntries.{differsAt, fillerCount}
 use Rattle.format.proofs.TestsMean.{equal-test}
-use Rattle.format.proofs.KindMeans.{kind}
+use Rattle.format.proofs.KindMeans.{kind, step-means, aligned-holds}
 
 names-right : (input : EncodeInput) → (namesWrong input ≡ false)
     ↔ ((names : List (List ℕ)) × LentNames (length (input .ends)) (input .names) (input .nameEnds) names)
@@ -101,7 +101,7 @@ unfolding written writtenAs withoutN
 written-holds bases reference previous codes candidate =
     record {
       as-raw4 = λ e. rw e refl;
-      as-aligned = λ e. rw e (refl, (eqb-true (candidate .strand) 1, eq-eqb (candidate .strand) 1));
+      as-aligned = λ e. rw e (refl, aligned-holds bases reference previous codes candidate e);
       as-raw = λ e. rw e refl;
     }
 
@@ -272,12 +272,7 @@ rule-means =
       written = written-holds;
       sizes = sizes;
       flags = flags;
-      step = λ previous position. (
-        λ e.
-            let both = and-both (leb previous position) _ e in
-            (leb-true previous position (both .0), leb-true (position - previous) 65_535 (both .1)),
-        λ h. both-and _ _ (le-leb previous position (h .0)) (le-leb (position - previous) 65_535 (h .1)),
-      );
+      step = step-means;
       differs = λ expected codes k. (
         λ e.
             let both = and-both (not (eqb (getD codes k 0) 4)) _ e in

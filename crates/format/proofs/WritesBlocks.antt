@@ -49,22 +49,22 @@ meet-letters reference [] (w ∷ ws) h = absurd h
 meet-letters reference (read ∷ codes) [] h = absurd h
 meet-letters reference (read ∷ codes) (w ∷ ws) h = ap₂ _∷_ (h .0 .letters) (meet-letters reference codes ws (h .1))
 
-rule-reads : (bases : ℕ) (reference : List ℕ) (codes names : List (List ℕ)) (candidates : List Candidate) → WrittenReads codes candidates
+rule-reads : (bases : ℕ) (reference : List ℕ) (codes names : List (List ℕ)) (candidates : List Candidate) → WrittenReads bases codes candidates
     → blockReads reference bases (ruleDivided bases reference codes names candidates) ≡ map (map letterOfCode) codes
 unfolding blockReads divisionLetters asRead pieceOf
 rule-reads bases reference codes names candidates r =
     let ws : List Written = writtenFrom bases reference 0 codes candidates in
-    let meet : AllMeet reference codes ws = all-meet bases reference 0 codes candidates (r .counted) (r .below) (r .fits) in
+    let meet : AllMeet reference codes ws = all-meet bases reference 0 codes candidates (r .bounded) (r .counted) (r .below) (r .fits) in
     ap (map (λ (read : Read). recordLetters reference (read .context) (read .piece .stored))) (written-reads bases reference codes candidates meet)
     ∙ map-map (λ (read : Read). recordLetters reference (read .context) (read .piece .stored)) asRead ws
     ∙ meet-letters reference codes ws meet
 
-rule-counts : (bases : ℕ) (reference : List ℕ) (codes names : List (List ℕ)) (candidates : List Candidate) → WrittenReads codes candidates
+rule-counts : (bases : ℕ) (reference : List ℕ) (codes names : List (List ℕ)) (candidates : List Candidate) → WrittenReads bases codes candidates
     → readCounts bases reference (ruleDivided bases reference codes names candidates) ≡ ruleCounts bases reference codes candidates
 unfolding asRead pieceOf
 rule-counts bases reference codes names candidates r =
     let ws : List Written = writtenFrom bases reference 0 codes candidates in
-    let meet : AllMeet reference codes ws = all-meet bases reference 0 codes candidates (r .counted) (r .below) (r .fits) in
+    let meet : AllMeet reference codes ws = all-meet bases reference 0 codes candidates (r .bounded) (r .counted) (r .below) (r .fits) in
     ap (map (λ (read : Read). recordCounts reference (read .context) (read .piece .stored))) (written-reads bases reference codes candidates meet)
     ∙ map-map (λ (read : Read). recordCounts reference (read .context) (read .piece .stored)) asRead ws
 
@@ -82,10 +82,11 @@ record Divided (bases : ℕ) (reference : List ℕ) (reads names : List (List �
   wellFormed : WellFormed bases (blockOf bases reference input)
   divides : DividesBlock bases (blockOf bases reference input) (ruleDivided bases reference (codesOf reads) names (candidatesOf input))
 
-block-divided : (bases : ℕ) (reference : List ℕ) (reads names : List (List ℕ)) (input : EncodeInput) → LentFits input → Writable reads names input
+block-divided : (bases : ℕ) (reference : List ℕ) (reads names : List (List ℕ)) (input : EncodeInput) → ReferenceFits bases reference
+    → LentFits input → Writable reads names input
     → Divided bases reference reads names input
-block-divided bases reference reads names input lent w =
-    let whole = rule-wellFormed bases reference (input .id) (input .time) (codesOf reads) names (candidatesOf input) (rule-fits reads names input lent w) in
+block-divided bases reference reads names input fits lent w =
+    let whole = rule-wellFormed bases reference (input .id) (input .time) (codesOf reads) names (candidatesOf input) (rule-fits bases reference reads names input fits lent w) in
     let same = block-is bases reference reads names input w in
     record {
       wellFormed = subst (λ (block : List ℕ). WellFormed bases block) (sym same) (whole .0);
@@ -103,9 +104,9 @@ decodes-back : (bases : ℕ) (reference : List ℕ) (reads names : List (List �
     × (decodedBuffers bases reference (blockOf bases reference input ++ rest) buffers ≡ filledWith reads names buffers)
 unfolding readEnds
 decodes-back bases reference reads names input rest buffers fits lent w full =
-    let d : Divided bases reference reads names input = block-divided bases reference reads names input lent w in
+    let d : Divided bases reference reads names input = block-divided bases reference reads names input fits lent w in
     let divided : BlockDivision = ruleDivided bases reference (codesOf reads) names (candidatesOf input) in
-    let given : WrittenReads (codesOf reads) (candidatesOf input) = rule-fits reads names input lent w .reads-fit in
+    let given : WrittenReads bases (codesOf reads) (candidatesOf input) = rule-fits bases reference reads names input fits lent w .reads-fit in
     let back : blockReads reference bases divided ≡ reads
     = rule-reads bases reference (codesOf reads) names (candidatesOf input) given ∙ reads-back reads (w .letters) in
     let sizes : map length (codesOf reads) ≡ map length reads = codes-lengths reads in
@@ -126,14 +127,15 @@ decodes-back bases reference reads names input rest buffers fits lent w full =
       λ i. record { letters = letters i; ends = ends i; names = r .names-are i; nameEnds = r .name-ends-are i },
     )
 
-block-header : (bases : ℕ) (reference : List ℕ) (reads names : List (List ℕ)) (input : EncodeInput) → LentFits input → Writable reads names input
+block-header : (bases : ℕ) (reference : List ℕ) (reads names : List (List ℕ)) (input : EncodeInput) → ReferenceFits bases reference
+    → LentFits input → Writable reads names input
     → headerOf (blockOf bases reference input)
     ≡ writtenHeader (input .id) (input .time) (length (divisionBytes (writtenDivision bases reference (codesOf reads) (candidatesOf input))))
     (length (writtenNames names)) (writtenSizes (map length reads)) (writtenNSection (writtenDivision bases reference (codesOf reads) (candidatesOf input))) (map length reads)
-block-header bases reference reads names input lent w =
+block-header bases reference reads names input fits lent w =
     let division : Division = writtenDivision bases reference (codesOf reads) (candidatesOf input) in
     ap headerOf (block-is bases reference reads names input w)
-    ∙ rule-header bases reference (input .id) (input .time) (codesOf reads) names (candidatesOf input) (rule-fits reads names input lent w)
+    ∙ rule-header bases reference (input .id) (input .time) (codesOf reads) names (candidatesOf input) (rule-fits bases reference reads names input fits lent w)
     ∙ ap (λ (l : List ℕ). writtenHeader (input .id) (input .time) (length (divisionBytes division)) (length (writtenNames names)) (writtenSizes l)
     (writtenNSection division) l)
     (codes-lengths reads)
@@ -144,13 +146,13 @@ writes : (bases : ℕ) (reference : List ℕ) (reads names : List (List ℕ)) (i
     → Writable reads names input → Writes bases reference reads names input
 unfolding encoded encodedBuffer
 writes bases reference reads names input fits lent w =
-    let d : Divided bases reference reads names input = block-divided bases reference reads names input lent w in
+    let d : Divided bases reference reads names input = block-divided bases reference reads names input fits lent w in
     let zero′ : (out : List ℕ) → length (blockOf bases reference input) ≤ length out → eqb (encodeNumber bases reference input out) 0 ≡ true
     = λ out room. eq-eqb _ 0 (writable-zero bases reference reads names input out fits w room) in
     record {
       outcome = λ out room. cond-yes (refusal (encodeNumber bases reference input out) 0 0) (zero′ out room) refl;
       buffer = λ out room. cond-yes out (zero′ out room) refl;
-      header = block-header bases reference reads names input lent w;
+      header = block-header bases reference reads names input fits lent w;
       wellFormed = d .wellFormed;
       division = λ divided e.
           let same = one-divided bases (blockOf bases reference input) divided (ruleDivided bases reference (codesOf reads) names (candidatesOf input))

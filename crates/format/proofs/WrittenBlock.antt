@@ -25,7 +25,8 @@ use Rattle.format.proofs.WrittenBound.{record-length}
 -- ---- Every record of a list
 
 -- The reads as codes, and what the writer is given with them.
-pub record WrittenReads (reads : List (List ℕ)) (candidates : List Candidate) : Type 0 where
+pub record WrittenReads (bases : ℕ) (reads : List (List ℕ)) (candidates : List Candidate) : Type 0 where
+  pub bounded : bases < 2 ^ 32
   pub few : length reads ≤ 50000
   pub valid : any lengthInvalid (map length reads) ≡ false
   pub below : All (Below 5) reads
@@ -34,14 +35,14 @@ pub record WrittenReads (reads : List (List ℕ)) (candidates : List Candidate) 
   pub small : total (map length reads) < 2 ^ 32
 
 pub all-meet : (bases : ℕ) (reference : List ℕ) (previous : ℕ) (reads : List (List ℕ)) (candidates : List Candidate)
-    → length candidates ≡ length reads → All (Below 5) reads → All CandidateFits candidates
+    → bases < 2 ^ 32 → length candidates ≡ length reads → All (Below 5) reads → All CandidateFits candidates
     → AllMeet reference reads (writtenFrom bases reference previous reads candidates)
 unfolding writtenFrom
-all-meet bases reference previous [] candidates n below fits = tt
-all-meet bases reference previous (codes ∷ reads) [] n below fits = absurd (omega arith)
-all-meet bases reference previous (codes ∷ reads) (candidate ∷ candidates) n below fits = (
-  written-meets bases reference previous codes candidate (below .0) (fits .0),
-  all-meet bases reference _ reads candidates (omega arith) (below .1) (fits .1),
+all-meet bases reference previous [] candidates small n below fits = tt
+all-meet bases reference previous (codes ∷ reads) [] small n below fits = absurd (omega arith)
+all-meet bases reference previous (codes ∷ reads) (candidate ∷ candidates) small n below fits = (
+  written-meets bases reference previous codes candidate small (below .0) (fits .0),
+  all-meet bases reference _ reads candidates small (omega arith) (below .1) (fits .1),
 )
 
 pub meet-count : (reference : List ℕ) (reads : List (List ℕ)) (ws : List Written) → AllMeet reference reads ws → length ws ≡ length reads
@@ -134,12 +135,12 @@ pub record SectionsSmall (bases : ℕ) (reference : List ℕ) (reads : List (Lis
   pub n-size : length (writtenNSection (writtenDivision bases reference reads candidates)) ≡ groupCount (length reads)
   pub n-bytes : AllBytes (writtenNSection (writtenDivision bases reference reads candidates))
 
-pub sections-small : (bases : ℕ) (reference : List ℕ) (reads : List (List ℕ)) (candidates : List Candidate) → WrittenReads reads candidates
+pub sections-small : (bases : ℕ) (reference : List ℕ) (reads : List (List ℕ)) (candidates : List Candidate) → WrittenReads bases reads candidates
     → SectionsSmall bases reference reads candidates
 unfolding writtenDivision lettersOf groupCount writtenNSection
 sections-small bases reference reads candidates r =
     let ws : List Written = writtenFrom bases reference 0 reads candidates in
-    let meet : AllMeet reference reads ws = all-meet bases reference 0 reads candidates (r .counted) (r .below) (r .fits) in
+    let meet : AllMeet reference reads ws = all-meet bases reference 0 reads candidates (r .bounded) (r .counted) (r .below) (r .fits) in
     let groups : List (List Written) = inGroups ws in
     let small : All (All Small) groups = all-inGroups Small ws (all-small reference reads ws meet) in
     let whole : flatten groups ≡ ws = flatten-inGroups ws in

@@ -2,7 +2,7 @@
 use mathlib.Core.Path.{_≡_, refl, sym, ap, ap₂, _∙_}
 use Prim.Native.Nat.{ℕ, _+_, _-_, _≤_, _<_}
 use native.Mathlib.Omega.{arith}
-use mathlib.Core.Bool.{Bool, true, false, cond, not}
+use mathlib.Core.Bool.{Bool, true, false, cond, not, _||_}
 use mathlib.Core.List.{List, [], _∷_, _++_, map}
 use lib.ListN.{length, getD, take, drop, length-map, length-drop, List·getD-map, List·getD-append}
 use lib.Seq.{getD-take, getD-drop, getD-append-add, length-take-le, ext-getD}
@@ -12,13 +12,16 @@ use Rattle.base.specs.Lists.{part, member, placesFrom, placesWhere}
 use Rattle.base.proofs.ListLaws.{by-order, by-test, no-length, length-build, getD-build}
 use Rattle.base.proofs.PlacesWhereLaws.{places-rise, member-places, places-steps}
 use Rattle.base.proofs.AnswerLaws.{cond-yes, cond-no}
-use Rattle.base.proofs.Tests.{and-both, and-first, not-false, false-not}
+use Rattle.base.proofs.Tests.{and-both, and-first, not-true, not-false, true-not, false-not}
 use Rattle.dna.specs.Reference.{strandBase, stretchIndex, letterOfCode}
 use Rattle.dna.specs.Record.{ReadContext, Entry, RecordFields, StoredRecord}
 use Rattle.dna.specs.Alignment.{isAligned, fieldOf, entriesOf, leftOf, rightOf, alignedLength}
-use Rattle.dna.specs.Alignment.{position, leftmost, referenceIndex, entryPlaces, nPositions}
+use Rattle.dna.specs.Alignment.{position, isLocal, runsDown, leftmost, referenceIndex, entryPlaces}
+use Rattle.dna.specs.Alignment.{nPositions}
 use Rattle.dna.specs.Letters.{alignedCause, fieldsCause, causeAt, packedCodes, codeOf}
 use Rattle.dna.specs.Letters.{recordLetters}
+use Rattle.dna.specs.Rules.{SpanHolds}
+use Rattle.dna.proofs.StretchMeans.{leftmost-up, leftmost-down, leftmost-span}
 use Rattle.format.specs.RuleEntries.{differsAt, gapsOf}
 use Rattle.format.specs.RuleRecord.{Candidate, nOffsetsOf, padded, withoutN, alignedCount}
 use Rattle.format.specs.RuleRecord.{expectedAt, candidateGaps, candidateEntries, clippedCodes}
@@ -49,11 +52,13 @@ pub record AtPlace (reference : List ℕ) (previous : ℕ) (codes : List ℕ) (c
   pub left : leftOf fields ≡ candidate .left
   pub right : rightOf fields ≡ candidate .right
   pub field : fieldOf fields ≡ fieldFor previous (storedPosition codes candidate)
+  pub down : (context : ReadContext)
+      → runsDown context fields ≡ not (eqb (candidate .left + candidate .right) 0 || context .forward)
   pub packed : 1 ≤ candidate .left + candidate .right → packedCodes fields ≡ clippedCodes codes candidate
 
 pub at-place : (reference : List ℕ) (previous : ℕ) (codes : List ℕ) (candidate : Candidate)
     → AtPlace reference previous codes candidate (alignedFields reference previous codes candidate)
-unfolding alignedFields isAligned entriesOf leftOf rightOf fieldOf packedCodes padded
+unfolding alignedFields isAligned entriesOf leftOf rightOf fieldOf isLocal runsDown packedCodes padded
 at-place reference previous codes candidate =
     let ends : ℕ = candidate .left + candidate .right in
     let entries : List Entry = candidateEntries reference codes candidate in
@@ -71,6 +76,7 @@ at-place reference previous codes candidate =
       left = omega arith;
       right = omega arith;
       field = refl;
+      down = λ context. ap (λ (b : Bool). not (b || context .forward)) (sym t);
       packed = λ h. absurd (omega arith);
     }))
     (λ u.
@@ -81,9 +87,20 @@ at-place reference previous codes candidate =
       left = omega arith;
       right = omega arith;
       field = refl;
+      down = λ context. ap (λ (b : Bool). not (b || context .forward)) (sym t);
       packed = λ h. absurd (omega arith);
     })))
-    (λ t. rw t (record { aligned = refl; entries = refl; left = refl; right = refl; field = refl; packed = λ h. refl }))
+    (λ t.
+    rw t
+    (record {
+      aligned = refl;
+      entries = refl;
+      left = refl;
+      right = refl;
+      field = refl;
+      down = λ context. ap (λ (b : Bool). not (b || context .forward)) (sym t);
+      packed = λ h. refl;
+    }))
 
 -- ---- A letter of such a record
 
@@ -118,9 +135,35 @@ module _ (bases : ℕ) (reference : List ℕ) (previous : ℕ) (codes : List ℕ
   aligned-is =
       ap₂ (λ (n m : ℕ). n - m) (before .readLength) (ap₂ (λ (l r : ℕ). l + r) (place .left) (place .right))
 
+  -- The record's stretch runs up exactly where the candidate's own position is stored.
+  down-is : runsDown context fields ≡ not (eqb (candidate .left + candidate .right) 0 || eqb (candidate .strand) 1)
+  down-is =
+      place .down context
+      ∙ ap (λ (f : Bool). not (eqb (candidate .left + candidate .right) 0 || f)) (before .forward)
+
+  -- One that runs down does not start below 0.
+  low-enough : runsDown context fields ≡ true → alignedLength context fields ≤ position context fields + 1
+  unfolding storedPosition
+  low-enough t =
+      let up : Bool = eqb (candidate .left + candidate .right) 0 || eqb (candidate .strand) 1 in
+      let stored = position-is ∙ cond-no (candidate .position) (not-true up (sym down-is ∙ t)) refl in
+      omega (arith, stored, aligned-is)
+
   pub leftmost-is : leftmost context fields ≡ candidate .position
-  unfolding leftmost storedPosition
-  leftmost-is = position-is
+  unfolding storedPosition alignedCount
+  leftmost-is =
+      let up : Bool = eqb (candidate .left + candidate .right) 0 || eqb (candidate .strand) 1 in
+      by-test up
+      (λ t. leftmost-up context fields (down-is ∙ true-not up t) ∙ position-is ∙ cond-yes _ t refl)
+      (λ t.
+      let stored = position-is ∙ cond-no (candidate .position) t refl in
+      let down = down-is ∙ false-not up t in
+      omega (arith, leftmost-down context fields down (low-enough down), stored, aligned-is, clips))
+
+  -- The stretch is inside the reference.
+  pub span-is : candidate .position + alignedCount codes candidate ≤ bases → SpanHolds context fields
+  span-is inside =
+      leftmost-span context fields (omega (arith, leftmost-is, aligned-is, before .referenceBases)) low-enough
 
   expected-is : (k : ℕ) → strandBase reference (context .forward) (referenceIndex context fields k) ≡ expectedAt reference codes candidate k
   unfolding expectedAt referenceIndex

@@ -24,7 +24,7 @@ use Rattle.base.proofs.Tests.{absurd-test, and-both, neither-or, not-true}
 use Rattle.dna.specs.Reference.{letterOfCode}
 use Rattle.dna.specs.Record.{ReadContext, Entry, EntryFits, PackedFits, RecordFields, fieldWidth}
 use Rattle.dna.specs.Record.{hasNList, FieldsFit, NListFits, RecordFits}
-use Rattle.dna.specs.Alignment.{isAligned, entriesOf, alignedLength, leftmost, nPositions, position}
+use Rattle.dna.specs.Alignment.{isAligned, entriesOf, alignedLength, nPositions, position}
 use Rattle.dna.specs.RecordFaults.{raw4Codes, paddingOf, recordFaults}
 use Rattle.dna.specs.Letters.{fieldsCause, causeAt, packedCodes, codeOf, recordLetters}
 use Rattle.dna.proofs.ReferenceLaws.{strandBase-below}
@@ -37,7 +37,7 @@ use Rattle.format.specs.RuleRecord.{placeUsed, storedPosition, stepFits,
 use Rattle.format.specs.RuleRecord.{alignedFields, isPerfect, chooseRaw4, chooseAligned}
 use Rattle.format.specs.RuleRecord.{chooseRaw, choiceFor, Written, writtenAs, written}
 use Rattle.format.proofs.WrittenEntries.{steps-entries, entries-fit}
-use Rattle.format.proofs.WrittenLetters.{AtPlace, at-place, Before, leftmost-is, aligned-is}
+use Rattle.format.proofs.WrittenLetters.{AtPlace, at-place, Before, aligned-is, span-is}
 use Rattle.format.proofs.WrittenLetters.{fields-letter, letters-by-code, with-n-list}
 use Rattle.format.proofs.WrittenLetters.{without-kept}
 
@@ -228,9 +228,17 @@ used bases reference codes candidate e =
       few = leb-true (length (candidateEntries reference codes candidate)) 31 (inside .1);
     }
 
--- What a candidate's buffers can hold.
+-- The position that is stored for a stretch inside is an index of the reference.
+pub stored-inside : (bases : ℕ) (codes : List ℕ) (candidate : Candidate) → candidate .left + candidate .right < length codes
+    → candidate .position + alignedCount codes candidate ≤ bases → storedPosition codes candidate < bases
+unfolding storedPosition alignedCount
+stored-inside bases codes candidate clips inside =
+    by-test (eqb (candidate .left + candidate .right) 0 || eqb (candidate .strand) 1)
+    (λ t. rw t (omega arith))
+    (λ t. rw t (omega arith))
+
+-- What a candidate's buffers of bytes can hold.
 pub record CandidateFits (candidate : Candidate) : Type 0 where
-  pub position : candidate .position < 2 ^ 32
   pub left : candidate .left < 256
   pub right : candidate .right < 256
 
@@ -301,16 +309,19 @@ module _ (bases : ℕ) (reference : List ℕ) (previous : ℕ) (codes : List ℕ
       without-below (front ++ back) (below-append front back (below-take codes (candidate .left) below) (below-drop codes (candidate .left + alignedCount codes candidate) below))
 
   -- The position's field has the width that it is stored in.
-  field-fits : CandidateFits candidate → (context : ReadContext) → context .incremental ≡ stepFits previous (storedPosition codes candidate)
+  field-fits : bases < 2 ^ 32 → (context : ReadContext)
+      → context .incremental ≡ stepFits previous (storedPosition codes candidate)
       → fieldFor previous (storedPosition codes candidate) < 256 ^ fieldWidth context
-  unfolding fieldFor stepFits storedPosition fieldWidth
+  unfolding fieldFor stepFits fieldWidth
   field-fits fits context e =
-      by-test (stepFits previous (storedPosition codes candidate))
+      let stored : ℕ = storedPosition codes candidate in
+      by-test (stepFits previous stored)
       (λ t.
-      let step = and-both (leb previous (candidate .position)) _ t in
-      let small = leb-true (candidate .position - previous) _ (step .1) in
+      let step = and-both (leb previous stored) _ t in
+      let small = leb-true (stored - previous) _ (step .1) in
       rw (e, t) (omega arith))
-      (λ t. rw (e, t) (omega (arith, fits .position)))
+      (λ t.
+      rw (e, t) (omega (arith, fits, stored-inside bases codes candidate (u .clips) (u .inside))))
 
   -- What each of the three kinds has to itself.
   record KindHolds (context : ReadContext) (fields : RecordFields) : Type 0 where
@@ -322,14 +333,15 @@ module _ (bases : ℕ) (reference : List ℕ) (previous : ℕ) (codes : List ℕ
     raw4Bit : Raw4BitHolds context fields
     has : hasNList context fields ≡ context .withN
 
-  kind-holds : CandidateFits candidate → (context : ReadContext) → context .incremental ≡ stepFits previous (storedPosition codes candidate)
+  kind-holds : bases < 2 ^ 32 → CandidateFits candidate → (context : ReadContext)
+      → context .incremental ≡ stepFits previous (storedPosition codes candidate)
       → context .readLength ≡ length codes → context .perfectBit ≡ isPerfect (alignedFields reference previous codes candidate)
       → KindHolds context (alignedFields reference previous codes candidate)
   unfolding alignedFields isPerfect raw4Codes paddingOf hasNList padded
-  kind-holds fits context step size perfectly =
+  kind-holds small fits context step size perfectly =
       let ends : ℕ = candidate .left + candidate .right in
       let entries : List Entry = candidateEntries reference codes candidate in
-      let field = field-fits fits context step in
+      let field = field-fits small context step in
       let few : length entries ≤ 31 = omega (arith, u .few) in
       by-test (eqb ends 0)
       (λ t.
@@ -381,18 +393,16 @@ module _ (bases : ℕ) (reference : List ℕ) (previous : ℕ) (codes : List ℕ
         has = refl;
       }))
 
-  aligned-meets : CandidateFits candidate → length (nOffsetsOf codes) ≤ 31
+  aligned-meets : bases < 2 ^ 32 → CandidateFits candidate → length (nOffsetsOf codes) ≤ 31
       → Meets reference codes (writtenAs chooseAligned bases reference previous codes candidate)
   unfolding writtenAs
-  aligned-meets fits few =
+  aligned-meets small fits few =
       let w : Written = writtenAs chooseAligned bases reference previous codes candidate in
       let fields : RecordFields = alignedFields reference previous codes candidate in
       let place : AtPlace reference previous codes candidate fields = at-place reference previous codes candidate in
       let before : Before bases previous codes candidate (w .context) =
       record { readLength = refl; referenceBases = refl; previousPosition = refl; forward = refl; incremental = refl } in
-      let kind : KindHolds (w .context) fields = kind-holds fits (w .context) refl refl refl in
-      let at : leftmost (w .context) fields ≡ candidate .position =
-      leftmost-is bases reference previous codes candidate fields (w .context) place before (u .clips) in
+      let kind : KindHolds (w .context) fields = kind-holds small fits (w .context) refl refl refl in
       let many : alignedLength (w .context) fields ≡ alignedCount codes candidate =
       aligned-is bases reference previous codes candidate fields (w .context) place before (u .clips) in
       record {
@@ -406,7 +416,8 @@ module _ (bases : ℕ) (reference : List ℕ) (previous : ℕ) (codes : List ℕ
               count = kind .count;
               rawBits = λ e. absurd-test (sym (place .aligned) ∙ e);
               clips = kind .clips;
-              inside = λ e. omega (arith, u .inside);
+              inside =
+                  span-is bases reference previous codes candidate fields (w .context) place before (u .clips) (u .inside);
               entries =
                   subst (λ (n : ℕ). Steps n 0 0 (map (λ entry. entry .offset) (entriesOf fields))) (sym many)
                   (subst (λ (es : List Entry). Steps (alignedCount codes candidate) 0 0 (map (λ entry. entry .offset) es)) (sym (place .entries)) candidate-steps);
@@ -425,10 +436,10 @@ module _ (bases : ℕ) (reference : List ℕ) (previous : ℕ) (codes : List ℕ
 -- ---- Every record
 
 -- The record of a read, whatever its candidate says.
-pub written-meets : (bases : ℕ) (reference : List ℕ) (previous : ℕ) (codes : List ℕ) (candidate : Candidate) → Below 5 codes → CandidateFits candidate
-    → Meets reference codes (written bases reference previous codes candidate)
+pub written-meets : (bases : ℕ) (reference : List ℕ) (previous : ℕ) (codes : List ℕ) (candidate : Candidate) → bases < 2 ^ 32
+    → Below 5 codes → CandidateFits candidate → Meets reference codes (written bases reference previous codes candidate)
 unfolding written choiceFor
-written-meets bases reference previous codes candidate below fits =
+written-meets bases reference previous codes candidate small below fits =
     by-test (ltb 31 (length (nOffsetsOf codes)))
     (λ t. rw t (raw4-meets bases reference previous codes candidate below))
     (λ t.
@@ -436,5 +447,5 @@ written-meets bases reference previous codes candidate below fits =
     by-test (placeUsed bases reference codes candidate)
     (λ v.
     rw (t, v)
-    (aligned-meets bases reference previous codes candidate below (used bases reference codes candidate v) fits few))
+    (aligned-meets bases reference previous codes candidate below (used bases reference codes candidate v) small fits few))
     (λ v. rw (t, v) (raw-meets bases reference previous codes candidate below few)))

@@ -157,8 +157,8 @@ no-length-fault id time dna names sizes ns lengths groups p =
 -- ---- The block
 
 -- What is lent with the reads.
-pub record RuleFits (id time : ℕ) (reads names : List (List ℕ)) (candidates : List Candidate) : Type 0 where
-  pub reads-fit : WrittenReads reads candidates
+pub record RuleFits (bases id time : ℕ) (reads names : List (List ℕ)) (candidates : List Candidate) : Type 0 where
+  pub reads-fit : WrittenReads bases reads candidates
   pub named : length names ≡ length reads
   pub names-fit : All NameFits names
   pub one-count : tokenCountsDiffer names ≡ false
@@ -171,7 +171,7 @@ ruleDivided bases reference reads names candidates =
     record { lengths = map length reads; division = writtenDivision bases reference reads candidates; names = names }
 
 rule-parts : (bases : ℕ) (reference : List ℕ) (id time : ℕ) (reads names : List (List ℕ)) (candidates : List Candidate)
-    → RuleFits id time reads names candidates
+    → RuleFits bases id time reads names candidates
     → BlockParts id time (divisionBytes (writtenDivision bases reference reads candidates)) (writtenNames names) (writtenSizes (map length reads))
     (writtenNSection (writtenDivision bases reference reads candidates)) (map length reads)
 unfolding groupCount
@@ -200,7 +200,7 @@ rule-from bases reference id time reads names candidates = refl
 
 -- The header is the rule's.
 pub rule-header : (bases : ℕ) (reference : List ℕ) (id time : ℕ) (reads names : List (List ℕ)) (candidates : List Candidate)
-    → RuleFits id time reads names candidates
+    → RuleFits bases id time reads names candidates
     → headerOf (ruleBlock bases reference id time reads names candidates)
     ≡ writtenHeader id time (length (divisionBytes (writtenDivision bases reference reads candidates))) (length (writtenNames names))
     (writtenSizes (map length reads))
@@ -243,20 +243,20 @@ block-bytes id time dna names sizes ns lengths a b c d =
 
 -- The block is well-formed, divided by the rule.
 pub rule-wellFormed : (bases : ℕ) (reference : List ℕ) (id time : ℕ) (reads names : List (List ℕ)) (candidates : List Candidate)
-    → RuleFits id time reads names candidates
+    → RuleFits bases id time reads names candidates
     → (wf : WellFormed bases (ruleBlock bases reference id time reads names candidates)) × (wf .divided ≡ ruleDivided bases reference reads names candidates)
 rule-wellFormed bases reference id time reads names candidates r =
     let division : Division = writtenDivision bases reference reads candidates in
     let dna : List ℕ = divisionBytes division in
     let ns : List ℕ = writtenNSection division in
     let lengths : List ℕ = map length reads in
-    let given : WrittenReads reads candidates = r .reads-fit in
+    let given : WrittenReads bases reads candidates = r .reads-fit in
     let s : SectionsSmall bases reference reads candidates = sections-small bases reference reads candidates given in
     let section : List ℕ = writtenNames names in
     let p : BlockParts id time dna section (writtenSizes lengths) ns lengths = rule-parts bases reference id time reads names candidates r in
     let many : length lengths ≡ length reads = length-map reads length in
     let divides : Divides bases lengths ns dna division =
-    written-divides bases reference reads candidates (all-meet bases reference 0 reads candidates (given .counted) (given .below) (given .fits)) in
+    written-divides bases reference reads candidates (all-meet bases reference 0 reads candidates (given .bounded) (given .counted) (given .below) (given .fits)) in
     subst
     (λ (block : List ℕ). (wf : WellFormed bases block) × (wf .divided ≡ ruleDivided bases reference reads names candidates))
     (sym (rule-from bases reference id time reads names candidates)) (

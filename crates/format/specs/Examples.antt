@@ -3,11 +3,11 @@
 -- by computation, is proofs/ExamplesHold.antt.
 use Prim.Native.Nat.{ℕ, suc, _+_, _%_}
 use mathlib.Core.Path.{_≡_}
-use mathlib.Core.Bool.{true, false}
+use mathlib.Core.Bool.{Bool, true, false}
 use mathlib.Core.List.{List, [], _∷_, _++_, map}
 use lib.ListN.{replicate}
 use Rattle.base.specs.Lists.{build}
-use Rattle.dna.specs.Record.{global, raw}
+use Rattle.dna.specs.Record.{RecordFields, perfect, global, local, raw}
 use Rattle.dna.specs.Sums.{A, C, G, T, N, reference, packed, entry, oneRead}
 use Rattle.format.specs.WellFormed.{BlockDivision, WellFormed}
 use Rattle.format.specs.Joined.{fileReads}
@@ -115,6 +115,15 @@ unfoldable pub placeAt : (position strand : ℕ) → Candidate
 placeAt position strand =
     record { position = position; strand = strand; left = 0; right = 0 }
 
+-- The same with a letter clipped at each end.
+unfoldable pub clippedAt : (position strand : ℕ) → Candidate
+clippedAt position strand =
+    record { position = position; strand = strand; left = 1; right = 1 }
+
+-- A local record without entries whose ends are T and A.
+unfoldable pub endsTA : (field : ℕ) → RecordFields
+endsTA field = local field [] 1 1 (packed (3 ∷ 0 ∷ []) (0 ∷ 0 ∷ []))
+
 -- Seven reads: CAAC reverse at 6; GTACGA with ends 2 and 1 at 0; NC without a place; TGCA at 8, up
 -- to the last base; CAC with ends 1 and 1, at 11; A at 11, a step of 0; C at 0, where the
 -- reference has A. Their names are r1 to r7.
@@ -172,6 +181,18 @@ pub record RuleRight : Type 0 where
       ∷ record { fields = raw (packed (shifted 32) []); nOffsets = [] }
       ∷ record { fields = global 0 (entry 63 2 ∷ entry 1 0 ∷ []); nOffsets = [] }
       ∷ []
+  -- pos_t and fields where ends are clipped on the reverse strand, each time of 3 aligned letters:
+  -- TCGTA at 0; CG at 1; TG at 8; TCAAA at 7; TAACA at 6; TTGCA at 9; A at 11. The positions are 2,
+  -- 1, 8, 9, 8, 11 and 11: those of the clipped reads are where their stretches end.
+  pub reverse-clipped : _≡_ {A = List (Bool × RecordFields)}
+      (map (λ w. (w .context .incremental, w .stored .fields))
+      (writtenFrom 12 reference 0
+      ((3 ∷ 1 ∷ 2 ∷ 3 ∷ 0 ∷ []) ∷ (1 ∷ 2 ∷ []) ∷ (3 ∷ 2 ∷ []) ∷ (3 ∷ 1 ∷ 0 ∷ 0 ∷ 0 ∷ [])
+      ∷ (3 ∷ 0 ∷ 0 ∷ 1 ∷ 0 ∷ []) ∷ (3 ∷ 3 ∷ 2 ∷ 1 ∷ 0 ∷ []) ∷ (0 ∷ []) ∷ [])
+      (clippedAt 0 2 ∷ placeAt 1 1 ∷ placeAt 8 1 ∷ clippedAt 7 2 ∷ clippedAt 6 2 ∷ clippedAt 9 2
+      ∷ placeAt 11 1 ∷ [])))
+      ((true, endsTA 2) ∷ (false, perfect 1) ∷ (true, perfect 7) ∷ (true, endsTA 1)
+      ∷ (false, endsTA 8) ∷ (true, endsTA 3) ∷ (true, perfect 0) ∷ [])
   -- Reads of several kinds, byte for byte.
   pub block : blockOf 12 reference sevenReads ≡ sevenBlock
   -- Steps up to 65,535.

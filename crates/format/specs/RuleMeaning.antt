@@ -10,12 +10,14 @@ use lib.IntN.{pos}
 use lib.Dec.{eqb}
 use Rattle.base.specs.Lists.{member, All}
 use Rattle.dna.specs.Record.{perfect, global, local, raw, raw4}
+use Rattle.dna.specs.Alignment.{position, leftmost}
+use Rattle.dna.specs.Rules.{SpanHolds}
 use Rattle.dna.specs.Sizes.{same, inByte, inWords}
 use Rattle.format.specs.RuleEntries.{differsAt, fillerCount}
 use Rattle.format.specs.RuleRecord.{Candidate, nOffsetsOf, candidateEntries, placeUsed}
 use Rattle.format.specs.RuleRecord.{chooseRaw4, chooseAligned, chooseRaw, choiceFor}
 use Rattle.format.specs.RuleRecord.{stepFits, fieldFor, expectedAt}
-use Rattle.format.specs.RuleRecord.{padded, clippedCodes, alignedFields, written}
+use Rattle.format.specs.RuleRecord.{padded, clippedCodes, alignedFields, Written, written}
 use Rattle.format.specs.RuleBlock.{storedFrom, allEqual, writtenHeader}
 use Rattle.format.specs.EncodeAnswer.{EncodeInput, readCountTooLarge}
 use Rattle.format.specs.EncodeAnswer.{candidateCountWrong, readEndsInvalid, letterInvalid}
@@ -66,7 +68,9 @@ pub record ChoiceHolds (bases : ℕ) (reference codes : List ℕ) (candidate : C
       → (PlaceHolds bases reference codes candidate → ⊥)
       → choiceFor bases reference codes candidate ≡ chooseRaw
 
--- With no ends: perfect without differences, else global; with ends: local.
+-- With no ends: perfect without differences, else global; with ends: local. The position that is
+-- stored is the candidate's; with ends on the reverse strand it is the highest index of the
+-- stretch (02, Ticket 2).
 pub record KindHolds (reference : List ℕ) (previous : ℕ) (codes : List ℕ) (candidate : Candidate)
     : Type 0 where
   pub without : candidate .left + candidate .right ≡ 0
@@ -79,14 +83,32 @@ pub record KindHolds (reference : List ℕ) (previous : ℕ) (codes : List ℕ) 
       → alignedFields reference previous codes candidate
       ≡ global (fieldFor previous (candidate .position))
       (candidateEntries reference codes candidate)
-  pub clipped : 0 < candidate .left + candidate .right
+  pub clipped : 0 < candidate .left + candidate .right → candidate .strand ≡ 1
       → alignedFields reference previous codes candidate
       ≡ local (fieldFor previous (candidate .position))
       (candidateEntries reference codes candidate) (candidate .left) (candidate .right)
       (padded 4 (clippedCodes codes candidate))
+  pub clipped-reverse : 0 < candidate .left + candidate .right → candidate .strand ≡ 2
+      → alignedFields reference previous codes candidate
+      ≡ local
+      (fieldFor previous
+      (candidate .position + (length codes - (candidate .left + candidate .right) - 1)))
+      (candidateEntries reference codes candidate) (candidate .left) (candidate .right)
+      (padded 4 (clippedCodes codes candidate))
 
--- What is written for each choice: raw4; the record at the place, forward exactly if strand is 1;
--- raw. Letters under N are stored as A in a raw one.
+-- The record that is written at a place: forward exactly if strand is 1; its stretch is inside the
+-- reference, and the candidate's position is its lowest index; pos_t is set exactly where the step
+-- to its own position is 0 to 65,535 (02, Ticket 2: steps use the stored position).
+pub record AlignedHolds (previous : ℕ) (candidate : Candidate) (written′ : Written) : Type 0 where
+  pub forward : (written′ .context .forward ≡ true) ↔ (candidate .strand ≡ 1)
+  pub inside : SpanHolds (written′ .context) (written′ .stored .fields)
+  pub lowest : leftmost (written′ .context) (written′ .stored .fields) ≡ candidate .position
+  pub step : (written′ .context .incremental ≡ true)
+      ↔ ((previous ≤ position (written′ .context) (written′ .stored .fields))
+      × (position (written′ .context) (written′ .stored .fields) - previous ≤ 65_535))
+
+-- What is written for each choice: raw4; the record at the place; raw. Letters under N are stored
+-- as A in a raw one.
 pub record WrittenHolds (bases : ℕ) (reference : List ℕ) (previous : ℕ) (codes : List ℕ)
     (candidate : Candidate) : Type 0 where
   pub as-raw4 : choiceFor bases reference codes candidate ≡ chooseRaw4
@@ -94,8 +116,7 @@ pub record WrittenHolds (bases : ℕ) (reference : List ℕ) (previous : ℕ) (c
   pub as-aligned : choiceFor bases reference codes candidate ≡ chooseAligned
       → (written bases reference previous codes candidate .stored .fields
       ≡ alignedFields reference previous codes candidate)
-      × ((written bases reference previous codes candidate .context .forward ≡ true)
-      ↔ (candidate .strand ≡ 1))
+      × AlignedHolds previous candidate (written bases reference previous codes candidate)
   pub as-raw : choiceFor bases reference codes candidate ≡ chooseRaw
       → written bases reference previous codes candidate .stored .fields
       ≡ raw (padded 4 (map (λ code. cond (eqb code 4) 0 code) codes))

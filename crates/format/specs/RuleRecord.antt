@@ -13,7 +13,8 @@ use Rattle.dna.specs.Record.{RecordFields, perfect, global, local, raw, raw4, S
 use Rattle.format.specs.RuleEntries.{Gap, gapsOf, entriesOfGaps}
 
 -- 01: what the mapper proposes for a read: a position, and in a byte each strand (1 forward, 2
--- reverse, else none), left and right.
+-- reverse, else none), left and right. The position is the lowest reference index of the aligned
+-- stretch, whatever the record is then (02, Ticket 2: proposals keep the lowest index).
 pub record Candidate : Type 0 where
   pub position : ℕ
   pub strand : ℕ
@@ -80,9 +81,13 @@ placeUsed bases reference codes candidate =
 
 -- ---- Its position
 
--- The position that is stored for a candidate's place: what the next read's step adds to.
+-- The position that is stored for a candidate's place, and that the next read's step adds to: the
+-- lowest index of the stretch or, with ends on the reverse strand, where the stretch ends at its
+-- position, the highest (02, Ticket 2).
 unfoldable pub storedPosition : (codes : List ℕ) (candidate : Candidate) → ℕ
-storedPosition codes candidate = candidate .position
+storedPosition codes candidate =
+    cond (eqb (candidate .left + candidate .right) 0 || eqb (candidate .strand) 1)
+    (candidate .position) (candidate .position + (alignedCount codes candidate - 1))
 
 -- The largest step that pos_t stores.
 abbrev pub maxStep : ℕ

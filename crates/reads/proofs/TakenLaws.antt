@@ -13,13 +13,14 @@ use Rattle.base.proofs.AnswerLaws.{found-refusedAs}
 use Rattle.dna.specs.Reference.{ReferenceFits}
 use Rattle.dna.specs.Sizes.{maxReadLength}
 use Rattle.dna.specs.Record.{ReadContext, RecordFields, StoredRecord}
-use Rattle.dna.specs.Alignment.{isAligned, position, positionAfter, leftmost, entriesOf}
+use Rattle.dna.specs.Alignment.{isAligned, position, positionAfter, entriesOf}
 use Rattle.dna.specs.Counts.{isDifference, recordCounts}
 use Rattle.dna.specs.Division.{contextOf}
 use Rattle.dna.specs.RecordAt.{recordAt}
 use Rattle.dna.specs.Rules.{RulesHold}
 use Rattle.dna.specs.Walk.{ofRead, Walk, refusedAt}
 use Rattle.dna.proofs.RecordSound.{RecordFoundAt, record-found}
+use Rattle.dna.proofs.StretchMeans.{position-inside}
 use Rattle.dna.proofs.RulesMean.{rules-mean}
 use Rattle.lengths.specs.Cursor.{lengthStep}
 use Rattle.lengths.specs.declared.LengthStep.{LengthStep}
@@ -166,10 +167,10 @@ taken-stands source cursor taken end e =
 position-near : (context : ReadContext) (stored : StoredRecord) (bound : ℕ)
     → RulesHold context stored → context .previousPosition < bound
     → context .referenceBases < bound → positionAfter context (stored .fields) < bound
-unfolding positionAfter leftmost
+unfolding positionAfter
 position-near context stored bound rules before small =
     by-test (isAligned (stored .fields))
-    (λ t. rw t (omega (arith, rules .inside t)))
+    (λ t. rw t (omega (arith, position-inside context (stored .fields) (rules .inside) t)))
     (λ t. rw t before)
 
 -- It stands in the section, and its position is that of a base.

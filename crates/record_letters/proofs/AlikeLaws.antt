@@ -12,7 +12,8 @@ use Rattle.dna.specs.Reference.{strandBase, stretchIndex, letterOfCode}
 use Rattle.dna.specs.Record.{ReadContext, Entry, RecordFields, perfect, global, local, raw, raw4}
 use Rattle.dna.specs.Record.{StoredRecord}
 use Rattle.dna.specs.Alignment.{isAligned, fieldOf, entriesOf, leftOf, rightOf, alignedLength}
-use Rattle.dna.specs.Alignment.{position, leftmost, referenceIndex, entryPlaces, nPositions}
+use Rattle.dna.specs.Alignment.{position, isLocal, runsDown, leftmost, referenceIndex, entryPlaces}
+use Rattle.dna.specs.Alignment.{nPositions}
 use Rattle.dna.specs.Letters.{Cause, nList, rawCode, clippedCode, entryCode, referenceCode}
 use Rattle.dna.specs.Letters.{alignedCause, fieldsCause, causeAt, packedCodes, codeOf}
 use Rattle.dna.specs.Letters.{recordLetters}
@@ -27,7 +28,8 @@ pub record Alike (context other : ReadContext) (fields laid : RecordFields) : Ty
   pub long : other .readLength ≡ context .readLength
   pub forward : other .forward ≡ context .forward
   pub aligned : isAligned laid ≡ isAligned fields
-  pub lowest : leftmost other laid ≡ leftmost context fields
+  pub place : position other laid ≡ position context fields
+  pub down : runsDown other laid ≡ runsDown context fields
   pub entries : entriesOf laid ≡ entriesOf fields
   pub left : leftOf laid ≡ leftOf fields
   pub right : rightOf laid ≡ rightOf fields
@@ -61,6 +63,10 @@ module _ {context other : ReadContext} {fields laid : RecordFields}
   unfolding alignedLength
   aligned-alike = λ t. alike .long t - (alike .left t + alike .right t)
 
+  pub lowest-alike : leftmost other laid ≡ leftmost context fields
+  unfolding leftmost
+  lowest-alike = λ t. cond (alike .down t) (alike .place t + 1 - aligned-alike t) (alike .place t)
+
   pub steps-alike :
       Steps (alignedLength context fields) 0 0 (map (λ entry. entry .offset) (entriesOf fields))
       → Steps (alignedLength other laid) 0 0 (map (λ entry. entry .offset) (entriesOf laid))
@@ -75,7 +81,7 @@ module _ {context other : ReadContext} {fields laid : RecordFields}
   cause-alike : (i : ℕ) → fieldsCause other laid i ≡ fieldsCause context fields i
   unfolding fieldsCause alignedCause referenceIndex entryPlaces
   cause-alike i = λ t.
-      causeFrom (alike .aligned t) (alike .forward t) (alike .lowest t) (alike .left t)
+      causeFrom (alike .aligned t) (alike .forward t) (lowest-alike t) (alike .left t)
       (aligned-alike t) (placesFrom 0 (map (λ entry. entry .offset) (alike .entries t))) i
 
   code-alike : (reference : List ℕ) (cause : Cause)
@@ -121,7 +127,7 @@ module _ {context other : ReadContext} {fields laid : RecordFields}
     differences-alike = λ t.
         countTrue
         (build (length (alike .entries t))
-        (differenceFrom reference (alike .forward t) (alike .lowest t) (alike .left t)
+        (differenceFrom reference (alike .forward t) (lowest-alike t) (alike .left t)
         (aligned-alike t) (alike .entries t) offsets))
 
 -- ---- With the position for the field
@@ -135,14 +141,15 @@ pub placed-alike : (context : ReadContext) (bases : ℕ) (fields : RecordFields)
     → (isAligned fields ≡ false → (context .forward ≡ false) × (context .incremental ≡ false))
     → Alike context (contextIn bases (context .readLength) (recordOf context fields)) fields
     (placedFields context fields)
-unfolding placedFields recordOf forwardIn isAligned entriesOf leftOf rightOf packedCodes leftmost
-    position fieldOf
+unfolding placedFields recordOf forwardIn isAligned entriesOf leftOf rightOf packedCodes isLocal
+    runsDown position fieldOf
 placed-alike context bases (perfect field) raws =
     record {
       long = refl;
       forward = forward-strand (context .forward);
       aligned = refl;
-      lowest = zero-add _;
+      place = zero-add _;
+      down = refl;
       entries = refl;
       left = refl;
       right = refl;
@@ -153,7 +160,8 @@ placed-alike context bases (global field entries) raws =
       long = refl;
       forward = forward-strand (context .forward);
       aligned = refl;
-      lowest = zero-add _;
+      place = zero-add _;
+      down = refl;
       entries = refl;
       left = refl;
       right = refl;
@@ -164,7 +172,8 @@ placed-alike context bases (local field entries left right clipped) raws =
       long = refl;
       forward = forward-strand (context .forward);
       aligned = refl;
-      lowest = zero-add _;
+      place = zero-add _;
+      down = ap not (forward-strand (context .forward));
       entries = refl;
       left = refl;
       right = refl;
@@ -175,7 +184,8 @@ placed-alike context bases (raw letters) raws =
       long = refl;
       forward = sym (raws refl .0);
       aligned = refl;
-      lowest = sym (ap (λ (t : Bool). cond t (context .previousPosition) 0 + 0) (raws refl .1));
+      down = refl;
+      place = sym (ap (λ (t : Bool). cond t (context .previousPosition) 0 + 0) (raws refl .1));
       entries = refl;
       left = refl;
       right = refl;
@@ -186,7 +196,8 @@ placed-alike context bases (raw4 letters) raws =
       long = refl;
       forward = sym (raws refl .0);
       aligned = refl;
-      lowest = sym (ap (λ (t : Bool). cond t (context .previousPosition) 0 + 0) (raws refl .1));
+      down = refl;
+      place = sym (ap (λ (t : Bool). cond t (context .previousPosition) 0 + 0) (raws refl .1));
       entries = refl;
       left = refl;
       right = refl;

@@ -2,6 +2,7 @@
 -- Assumes nothing.
 use mathlib.Core.Path.{_≡_, refl, sym, ap, ap₂, _∙_, subst}
 use Prim.Native.Nat.{ℕ, suc, _+_, _-_, _/_, _%_, _≤_, _<_}
+use native.Mathlib.Nat.{zero-add}
 use native.Mathlib.Omega.{arith}
 use mathlib.Core.Bool.{Bool, true, false, not, cond, _&&_}
 use mathlib.Core.List.{List, [], _∷_, map}
@@ -13,7 +14,7 @@ use Rattle.base.proofs.ListLaws.{by-test}
 use Rattle.base.proofs.Tests.{or-neither}
 use Rattle.dna.specs.Record.{Entry, StoredRecord}
 use Rattle.dna.specs.Alignment.{fieldOf, entriesOf, leftOf, rightOf, alignedLength, position}
-use Rattle.dna.specs.Alignment.{leftmost, referenceIndex, entryPlaces, nPositions}
+use Rattle.dna.specs.Alignment.{isLocal, runsDown, leftmost, referenceIndex, entryPlaces, nPositions}
 use Rattle.dna.specs.Counts.{isFiller, isUnderN, isDifference, recordCounts}
 use Rattle.dna.specs.RecordFaults.{anyOutside}
 use Rattle.dna.specs.RecordAt.{entryOf, entriesAt}
@@ -23,7 +24,7 @@ use Rattle.dna.specs.declared.Record.the-variants as kinds
 use Rattle.records.specs.declared.Layout.{Layout}
 use Rattle.records.proofs.FieldLaws.{offsetsFrom, entries-cons}
 use Rattle.record_letters.specs.Laid.{isForward, fieldsIn, offsetsIn, storedIn, forwardIn}
-use Rattle.record_letters.specs.Laid.{contextIn, differsAt, differencesFrom}
+use Rattle.record_letters.specs.Laid.{contextIn, localLeftmost, differsAt, differencesFrom}
 
 -- ---- Entries
 
@@ -146,7 +147,8 @@ count-entries test place (entry ∷ entries) =
 
 -- What the count of a record's differences opens.
 unfoldable counting : Bool
-unfolding isDifference isFiller isUnderN referenceIndex leftmost position alignedLength entryPlaces
+unfolding isDifference isFiller isUnderN referenceIndex runsDown leftmost position alignedLength
+    entryPlaces
 counting = true
 
 module _ (section reference : List ℕ) (size : ℕ) (layout : Layout) where
@@ -173,8 +175,7 @@ module _ (section reference : List ℕ) (size : ℕ) (layout : Layout) where
   no-raw4 = refl
 
   module _ (placement : Placement) (forward : Bool) (leftmost′ : ℕ)
-      (strand : forward ≡ isForward (placement .strand))
-      (index : leftmost′ ≡ placement .position) where
+      (strand : forward ≡ isForward (placement .strand)) where
     -- The test of the code's walk, and that of the definition.
     abbrev pub differs : (left aligned : ℕ) → ℕ → ℕ → Bool
     differs left aligned =
@@ -206,10 +207,11 @@ module _ (section reference : List ℕ) (size : ℕ) (layout : Layout) where
         0 entries)
         e f
 
-    pub of-global : differencesFrom (differs 0 size) 0 entries
-        ≡ differencesOf (kinds.Global placement)
+    pub of-global : leftmost′ ≡ placement .position
+        → differencesFrom (differs 0 size) 0 entries ≡ differencesOf (kinds.Global placement)
     unfolding recordCounts counting differsAt fieldsIn forwardIn fieldOf leftOf rightOf entriesOf
-    of-global =
+        isLocal
+    of-global index =
         differs-same 0 size (0 + placement .position) (size - (0 + 0)) (omega arith) (omega arith)
         ∙ sym
         (count-entries
@@ -219,17 +221,20 @@ module _ (section reference : List ℕ) (size : ℕ) (layout : Layout) where
 
     pub of-local : (left aligned : ℕ) → left ≡ placement .left
         → aligned ≡ size - (placement .left + placement .right)
+        → leftmost′ ≡ localLeftmost placement aligned
         → differencesFrom (differs left aligned) 0 entries ≡ differencesOf (kinds.Local placement)
     unfolding recordCounts counting differsAt fieldsIn forwardIn fieldOf leftOf rightOf entriesOf
-    of-local left aligned e f =
+        isLocal localLeftmost
+    of-local left aligned e f index =
+        let size′ : ℕ = size - (placement .left + placement .right) in
+        let base : ℕ → ℕ → ℕ = λ p n. cond (not (isForward (placement .strand))) (p + 1 - n) p in
         ap (λ (n : ℕ). differencesFrom (differs n aligned) 0 entries) e
-        ∙ differs-same (placement .left) aligned (0 + placement .position)
-        (size - (placement .left + placement .right)) (omega arith) f
+        ∙ differs-same (placement .left) aligned (base (0 + placement .position) size′) size′
+        (index ∙ ap₂ base (sym (zero-add (placement .position))) f) f
         ∙ sym
         (count-entries
-        (differsAt reference (isForward (placement .strand)) (0 + placement .position)
-        (size - (placement .left + placement .right)) (placement .left)
-        (nPositions (offsetsIn section size layout)))
+        (differsAt reference (isForward (placement .strand)) (base (0 + placement .position) size′)
+        size′ (placement .left) (nPositions (offsetsIn section size layout)))
         0 entries)
 
 -- The reference's size does not matter.

@@ -1,8 +1,9 @@
 -- A record that is decoded lies in the section as its letters and counts need it. Assumes nothing.
 use mathlib.Core.Path.{_≡_, refl, ap, subst}
 use Prim.Native.Nat.{ℕ, _+_, _-_, _/_, _≤_}
+use native.Mathlib.Nat.{zero-add}
 use native.Mathlib.Omega.{arith}
-use mathlib.Core.Bool.{Bool, true, false}
+use mathlib.Core.Bool.{Bool, true, false, cond, not}
 use mathlib.Core.List.{List, map}
 use lib.ListN.{length}
 use lib.Dec.{ltb}
@@ -15,9 +16,10 @@ use Rattle.dna.specs.Reference.{referenceSizeWrong, ReferenceFits}
 use Rattle.dna.specs.Record.{ReadContext}
 use Rattle.dna.specs.Record.{StoredRecord, hasNList, NListFits}
 use Rattle.dna.specs.Alignment.{isAligned, fieldOf, entriesOf, leftOf, rightOf, alignedLength}
-use Rattle.dna.specs.Alignment.{position, leftmost}
+use Rattle.dna.specs.Alignment.{position, isLocal, runsDown, leftmost}
 use Rattle.dna.specs.RecordAt.{entriesAt, recordAt}
 use Rattle.dna.specs.Rules.{Steps, RulesHold, NListHolds}
+use Rattle.dna.specs.declared.Placement.{Placement}
 use Rattle.dna.specs.declared.Record.{Record}
 use Rattle.dna.specs.declared.Record.the-variants as kinds
 use Rattle.dna.proofs.OffsetLaws.{steps-tests}
@@ -26,8 +28,8 @@ use Rattle.dna.proofs.RulesMean.{rules-mean}
 use Rattle.reference.specs.Stretch.{StretchFits}
 use Rattle.records.specs.declared.Layout.{Layout}
 use Rattle.records.specs.Decoded.{recordOf, layoutOf}
-use Rattle.record_letters.specs.Laid.{fieldsIn, isFound, packedIn, PlacedIn}
-use Rattle.record_letters.specs.Laid.{Laid}
+use Rattle.record_letters.specs.Laid.{isForward, fieldsIn, forwardIn, isFound, localLeftmost}
+use Rattle.record_letters.specs.Laid.{packedIn, PlacedIn, Laid}
 use Rattle.record_letters.specs.Printed.{Printable}
 use Rattle.record_letters.proofs.Ranges.{packedSize, LaidInRange}
 use Rattle.record_letters.proofs.LaidLaws.{laid-in-range}
@@ -43,11 +45,22 @@ stretch-fits bases reference from count fits h =
     eqb-true (length reference) ((bases + 3) / 4) (not-false _ (both .1)) in
     record { inside = omega arith; small = omega arith }
 
+-- The lowest index of a local record, as the definition computes it.
+local-same : (placement : Placement) (aligned : ℕ)
+    → cond (not (isForward (placement .strand))) (0 + placement .position + 1 - aligned)
+    (0 + placement .position)
+    ≡ localLeftmost placement aligned
+unfolding localLeftmost
+local-same placement aligned =
+    ap (λ (p : ℕ). cond (not (isForward (placement .strand))) (p + 1 - aligned) p)
+    (zero-add (placement .position))
+
 -- How a record of each kind is placed.
 placed-in : (section reference : List ℕ) (bases readLength : ℕ) (record′ : Record) (layout : Layout)
     → LaidInRange section bases readLength record′ layout → ReferenceFits bases reference
     → PlacedIn section reference readLength record′ layout
-unfolding fieldsIn isAligned entriesOf leftOf rightOf fieldOf alignedLength position leftmost
+unfolding fieldsIn isAligned entriesOf leftOf rightOf fieldOf alignedLength position isLocal
+    runsDown leftmost forwardIn
 placed-in section reference bases readLength (kinds.Perfect placement) layout range fits =
     stretch-fits bases reference (placement .position) readLength fits
     (omega (arith, range .span refl))
@@ -66,10 +79,11 @@ placed-in section reference bases readLength (kinds.Global placement) layout ran
 placed-in section reference bases readLength (kinds.Local placement) layout range fits =
     let aligned : ℕ = readLength - (placement .left + placement .right) in (
       range .clips,
+      λ reverse. omega (arith, range .exact (ap not reverse)),
       record {
         stretch =
-            stretch-fits bases reference (placement .position) aligned fits
-            (omega (arith, range .span refl));
+            stretch-fits bases reference (localLeftmost placement aligned) aligned fits
+            (omega (arith, range .span refl, local-same placement aligned));
         places = steps-tests aligned _ (range .steps) .1;
       },
     )

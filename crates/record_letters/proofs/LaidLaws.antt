@@ -21,13 +21,15 @@ use Rattle.dna.specs.declared.Record.{Record}
 use Rattle.dna.proofs.OffsetLaws.{place-inside}
 use Rattle.dna.proofs.FieldLaws.{length-packed}
 use Rattle.dna.proofs.RecordSound.{length-global, length-local, RecordFoundAt, record-found}
+use Rattle.dna.proofs.StretchMeans.{leftmost-inside, span-exact}
 use Rattle.dna.proofs.RulesMean.{rules-mean}
 use Rattle.records.specs.declared.Layout.{Layout}
 use Rattle.records.specs.Decoded.{recordOf, headLength, clipBytes, layoutOf}
 use Rattle.record_letters.specs.Laid.{storedIn, contextIn}
 use Rattle.record_letters.proofs.Ranges.{placedFields, packedSize, InRange, LaidInRange}
 use Rattle.record_letters.proofs.FieldsLaid.{fields-laid, list-steps, listed, offsets-laid}
-use Rattle.record_letters.proofs.AlikeLaws.{Alike, aligned-alike, steps-alike, letters-alike}
+use Rattle.record_letters.proofs.AlikeLaws.{Alike, aligned-alike, lowest-alike, steps-alike}
+use Rattle.record_letters.proofs.AlikeLaws.{letters-alike}
 use Rattle.record_letters.proofs.AlikeLaws.{entries-alike, differences-alike, placed-alike}
 
 -- ---- Lengths
@@ -179,8 +181,15 @@ module _ (context : ReadContext) (list : List ℕ) (at : ℕ) (bytes : AllBytes 
         span = λ aligned.
             omega (
               arith,
-              rules .inside (sym (same .aligned) ∙ aligned),
-              same .lowest,
+              leftmost-inside context fields (rules .inside) (sym (same .aligned) ∙ aligned),
+              lowest-alike same,
+              aligned-alike same,
+            );
+        exact = λ down.
+            omega (
+              arith,
+              span-exact context fields (rules .inside) (sym (same .down) ∙ down),
+              same .place,
               aligned-alike same,
             );
         steps = steps-alike same (rules .entries);

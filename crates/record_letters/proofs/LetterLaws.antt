@@ -15,7 +15,8 @@ use Rattle.dna.specs.Reference.{letterOfCode, strandBase}
 use Rattle.dna.specs.Record.{ReadContext, RecordFields, perfect, global, local, raw, raw4}
 use Rattle.dna.specs.Record.{StoredRecord}
 use Rattle.dna.specs.Alignment.{isAligned, entriesOf, leftOf, rightOf, fieldOf, alignedLength}
-use Rattle.dna.specs.Alignment.{position, leftmost, referenceIndex, entryPlaces, nPositions}
+use Rattle.dna.specs.Alignment.{position, isLocal, runsDown, leftmost, referenceIndex, entryPlaces}
+use Rattle.dna.specs.Alignment.{nPositions}
 use Rattle.dna.specs.Rules.{Steps}
 use Rattle.dna.specs.Letters.{alignedCause, fieldsCause, causeAt, packedCodes, codeOf}
 use Rattle.dna.specs.Letters.{recordLetters}
@@ -148,7 +149,7 @@ module _ (left aligned : ℕ) (packed offsets codes : List ℕ) (base : ℕ → 
 unfoldable pub aligning : Bool
 unfolding
     withoutEntries leftOf rightOf fieldOf alignedLength packedCodes entriesOf entryPlaces
-    referenceIndex leftmost position placesFrom
+    referenceIndex isLocal runsDown leftmost position placesFrom
 aligning = true
 
 pub bare-aligned : (reference : List ℕ) (context : ReadContext) (fields : RecordFields) (i : ℕ)

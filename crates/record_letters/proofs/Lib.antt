@@ -8,6 +8,7 @@ pub mod DecodedLaid
 pub mod PairLaws
 pub mod TurnLaws
 pub mod PlaceLaws
+pub mod LocalLaws
 pub mod OverlayLaws
 pub mod LetterLaws
 pub mod PrintedLaws

@@ -2,8 +2,9 @@
 -- Assumes nothing.
 use mathlib.Core.Path.{_≡_, refl, sym, ap, ap₂, _∙_}
 use Prim.Native.Nat.{ℕ, _+_, _-_, _/_, _%_, _≤_}
+use native.Mathlib.Nat.{zero-add}
 use native.Mathlib.Omega.{arith}
-use mathlib.Core.Bool.{true}
+use mathlib.Core.Bool.{true, cond, not}
 use mathlib.Core.List.{List, [], _++_, map, append-nil}
 use lib.ListN.{getD}
 use borrow.Author.Tests.{lt-ltb, le-ltb}
@@ -19,7 +20,7 @@ use Rattle.dna.specs.declared.Placement.{Placement}
 use Rattle.dna.specs.declared.Record.{Record}
 use Rattle.dna.specs.declared.Record.the-variants as kinds
 use Rattle.records.specs.declared.Layout.{Layout}
-use Rattle.record_letters.specs.Laid.{isForward, fieldsIn, forwardIn, contextIn}
+use Rattle.record_letters.specs.Laid.{isForward, fieldsIn, forwardIn, contextIn, localLeftmost}
 use Rattle.record_letters.specs.Printed.{withoutEntries, plainLetters, localLetters}
 use Rattle.record_letters.proofs.LetterLaws.{alignedLetter, baseUnder, aligning}
 use Rattle.record_letters.proofs.LetterLaws.{plain-letters, bare-aligned}
@@ -149,13 +150,17 @@ module _ (section reference : List ℕ) (size : ℕ) (layout : Layout) where
   pub plain-local : (placement : Placement) → placement .left + placement .right ≤ size
       → localLetters section reference placement (layout .packed) size
       ≡ plainOf (kinds.Local placement)
-  unfolding aligning isAligned fieldsIn forwardIn stretchLetters localLetters packedAt
+  unfolding aligning isAligned fieldsIn forwardIn stretchLetters localLeftmost localLetters packedAt
   plain-local placement inside =
       let left : ℕ = placement .left in
       let right : ℕ = placement .right in
       let aligned : ℕ = size - (left + right) in
-      let from : placement .position ≡ 0 + placement .position = omega arith in
-      ap₂ (λ (a b : List ℕ). a ++ stretchOf placement aligned ++ b)
+      let base : ℕ → ℕ = λ p. cond (not (isForward (placement .strand))) (p + 1 - aligned) p in
+      let from : base (placement .position) ≡ base (0 + placement .position) =
+      ap base (sym (zero-add (placement .position))) in
+      let middle : List ℕ =
+      stretchLetters reference (isForward (placement .strand)) (base (placement .position)) aligned in
+      ap₂ (λ (a b : List ℕ). a ++ middle ++ b)
       (symbols-first 4 4 section (layout .packed) left (left + right) (omega arith))
       (symbols-part 4 4 section (layout .packed) left right (left + right) (omega arith))
       ∙ ap

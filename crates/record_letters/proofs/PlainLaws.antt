@@ -17,7 +17,7 @@ use Rattle.dna.specs.Reference.{letterOfCode, stretchLetters}
 use Rattle.dna.specs.declared.Placement.{Placement}
 use Rattle.dna.proofs.ReferenceLaws.{length-stretchLetters}
 use Rattle.reference.specs.Stretch.{StretchFits}
-use Rattle.record_letters.specs.Laid.{isForward}
+use Rattle.record_letters.specs.Laid.{isForward, localLeftmost}
 use Rattle.record_letters.specs.Printed.{localLetters}
 
 pub map-build : (g : ℕ → ℕ) (n : ℕ) (f : ℕ → ℕ) → map g (build n f) ≡ build n (λ k. g (f k))
@@ -72,9 +72,11 @@ module _ (section reference : List ℕ) (placement : Placement) (packed size lef
   abbrev clip : (first count : ℕ) → List ℕ
   clip first count = map letterOfCode (symbolsAt 4 4 section packed first count)
 
+  -- The aligned part, from its lowest index on.
   abbrev middle : List ℕ
   middle =
-      stretchLetters reference (isForward (placement .strand)) (placement .position) aligned
+      stretchLetters reference (isForward (placement .strand)) (localLeftmost placement aligned)
+      aligned
 
   -- The right end has room once the rest is written.
   pub local-room : (out one two : List ℕ) (at : ℕ) → at + size ≤ length out
@@ -83,8 +85,8 @@ module _ (section reference : List ℕ) (placement : Placement) (packed size lef
   local-room out one two at fits a b =
       let first : length (clip 0 left) ≡ left = length-packed section packed 0 left in
       let second : length middle ≡ aligned =
-      length-stretchLetters reference (isForward (placement .strand)) (placement .position)
-      aligned in
+      length-stretchLetters reference (isForward (placement .strand))
+      (localLeftmost placement aligned) aligned in
       let one′ : length one ≡ length out =
       ap length a ∙ length-pasted out at (clip 0 left) (omega arith) in
       let two′ : length two ≡ length one =
@@ -99,8 +101,8 @@ module _ (section reference : List ℕ) (placement : Placement) (packed size lef
   local-written out one two three at fits a b c =
       let first : length (clip 0 left) ≡ left = length-packed section packed 0 left in
       let second : length middle ≡ aligned =
-      length-stretchLetters reference (isForward (placement .strand)) (placement .position)
-      aligned in
+      length-stretchLetters reference (isForward (placement .strand))
+      (localLeftmost placement aligned) aligned in
       let both : length (clip 0 left ++ middle) ≡ left + aligned =
       length-append (clip 0 left) middle ∙ ap₂ (λ (m n : ℕ). m + n) first second in
       let two′ : two ≡ pasted out at (clip 0 left ++ middle) =
@@ -113,14 +115,15 @@ module _ (section reference : List ℕ) (placement : Placement) (packed size lef
       (λ (n : ℕ).
       pasted out at
       (clip 0 left
-      ++ stretchLetters reference (isForward (placement .strand)) (placement .position) n
+      ++ stretchLetters reference (isForward (placement .strand)) (localLeftmost placement n) n
       ++ clip left right))
       size′
       ∙ ap₂
       (λ (l r : ℕ).
       pasted out at
       (clip 0 l
-      ++ stretchLetters reference (isForward (placement .strand)) (placement .position)
+      ++ stretchLetters reference (isForward (placement .strand))
+      (localLeftmost placement (size - (placement .left + placement .right)))
       (size - (placement .left + placement .right))
       ++ clip l r))
       isLeft isRight

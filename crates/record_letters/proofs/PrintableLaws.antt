@@ -93,7 +93,7 @@ module _ (section reference : List ℕ) (size : ℕ) (layout : Layout) where
   entries-meet (kinds.Local placement) p =
       record {
         inside = omega (arith, p .laid .placed .0);
-        steps = tests-steps _ _ (p .later) (p .laid .placed .1 .places);
+        steps = tests-steps _ _ (p .later) (p .laid .placed .2 .places);
         narrow = entries-narrow section (layout .entries) (layout .«entry_count»);
       }
   entries-meet kinds.Raw p = record { inside = omega arith; steps = tt; narrow = tt }

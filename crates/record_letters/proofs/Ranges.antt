@@ -11,7 +11,7 @@ use Rattle.dna.specs.Reference.{codeN}
 use Rattle.dna.specs.Record.{maxEntries, ReadContext, RecordFields, perfect, global, local, raw}
 use Rattle.dna.specs.Record.{raw4, StoredRecord}
 use Rattle.dna.specs.Alignment.{isAligned, entriesOf, leftOf, rightOf, alignedLength, position}
-use Rattle.dna.specs.Alignment.{leftmost}
+use Rattle.dna.specs.Alignment.{runsDown, leftmost}
 use Rattle.dna.specs.RecordFaults.{raw4Codes}
 use Rattle.dna.specs.RecordAt.{offsetsAt}
 use Rattle.dna.specs.Rules.{Steps}
@@ -45,6 +45,8 @@ pub record InRange (context : ReadContext) (stored : StoredRecord) (section : Li
   pub span : isAligned (stored .fields) ≡ true
       → leftmost context (stored .fields) + alignedLength context (stored .fields)
       ≤ context .referenceBases
+  pub exact : runsDown context (stored .fields) ≡ true
+      → alignedLength context (stored .fields) ≤ position context (stored .fields) + 1
   pub steps : Steps (alignedLength context (stored .fields)) 0 0
       (map (λ entry. entry .offset) (entriesOf (stored .fields)))
   pub counted : layout .«entry_count» ≡ length (entriesOf (stored .fields))

@@ -17,6 +17,7 @@ use Rattle.dna.specs.RecordFaults.{anyOutside}
 use Rattle.dna.specs.RecordAt.{entriesAt, packedAt, offsetsAt}
 use Rattle.dna.specs.declared.Strand.{Strand}
 use Rattle.dna.specs.declared.Strand.the-variants as strands
+use Rattle.dna.specs.declared.Placement.{Placement}
 use Rattle.dna.specs.declared.Record.{Record}
 use Rattle.dna.specs.declared.Record.the-variants as kinds
 use Rattle.reference.specs.Stretch.{StretchFits}
@@ -95,6 +96,18 @@ pub record ListsLaid (section : List ℕ) (readLength : ℕ) (layout : Layout) :
   pub n-read :
       isFound (offsetsAt (layout .«n_count») readLength 0 0 section (layout .«n_list»)) ≡ true
 
+-- The lowest index of a local record's stretch: it runs up from the position, and on the reverse
+-- strand down from it.
+unfoldable pub localLeftmost : (placement : Placement) (aligned : ℕ) → ℕ
+localLeftmost placement aligned =
+    cond (not (isForward (placement .strand))) (placement .position + 1 - aligned)
+    (placement .position)
+
+-- It is exact: the stretch does not start below 0.
+abbrev pub LocalExact : (placement : Placement) (aligned : ℕ) → Type 0
+LocalExact placement aligned =
+    isForward (placement .strand) ≡ false → aligned ≤ placement .position + 1
+
 -- The aligned part lies on the reference, and each entry in the aligned part.
 pub record EntriesLaid (section reference : List ℕ) (layout : Layout) (leftmost′ aligned : ℕ)
     : Type 0 where
@@ -121,9 +134,10 @@ PlacedIn section reference readLength (kinds.Perfect placement) layout =
 PlacedIn section reference readLength (kinds.Global placement) layout =
     EntriesLaid section reference layout (placement .position) readLength
 PlacedIn section reference readLength (kinds.Local placement) layout =
+    let aligned : ℕ = readLength - (placement .left + placement .right) in
     (placement .left + placement .right ≤ readLength)
-    × EntriesLaid section reference layout (placement .position)
-    (readLength - (placement .left + placement .right))
+    × LocalExact placement aligned
+    × EntriesLaid section reference layout (localLeftmost placement aligned) aligned
 PlacedIn section reference readLength kinds.Raw layout = Unit {0}
 PlacedIn section reference readLength kinds.Raw4 layout = Unit {0}
 

@@ -19,7 +19,7 @@ use Rattle.dna.specs.declared.Placement.{Placement}
 use Rattle.dna.specs.declared.Record.{Record}
 use Rattle.dna.specs.declared.Record.the-variants as kinds
 use Rattle.records.specs.declared.Layout.{Layout}
-use Rattle.record_letters.specs.Laid.{isForward, fieldsIn, Laid}
+use Rattle.record_letters.specs.Laid.{isForward, fieldsIn, localLeftmost, Laid}
 
 -- The letter N.
 abbrev pub letterN : ℕ
@@ -73,9 +73,10 @@ plainLetters reference context fields =
 unfoldable pub localLetters : (section reference : List ℕ) (placement : Placement)
     (packed readLength : ℕ) → List ℕ
 localLetters section reference placement packed readLength =
+    let aligned : ℕ = readLength - (placement .left + placement .right) in
     map letterOfCode (symbolsAt 4 4 section packed 0 (placement .left))
-    ++ stretchLetters reference (isForward (placement .strand)) (placement .position)
-    (readLength - (placement .left + placement .right))
+    ++ stretchLetters reference (isForward (placement .strand)) (localLeftmost placement aligned)
+    aligned
     ++ map letterOfCode (symbolsAt 4 4 section packed (placement .left) (placement .right))
 
 -- Second: N at places counted from `at`.

@@ -1,5 +1,6 @@
 // The differences of a decoded record (01, Records: counts of a block): entries that are not what
 // the reference gives and do not stand under an N. Entries and N list are walked in the section.
+use dna::Placement;
 use dna::Record;
 use dna::Strand;
 use integers::size8;
@@ -16,7 +17,7 @@ ghost use lib.ListN.{length};
 ghost use lib.Dec.{eqb};
 ghost use Rattle.base.specs.Lists.{member};
 ghost use Rattle.dna.specs.Sizes.{maxReadLength};
-ghost use Rattle.dna.specs.Reference.{strandBase};
+ghost use Rattle.dna.specs.Reference.{maxReferenceBases, strandBase};
 ghost use Rattle.dna.specs.Alignment.{nPositions};
 ghost use Rattle.dna.specs.Counts.{recordCounts};
 ghost use Rattle.dna.specs.RecordAt.{entriesAt, offsetsAt};
@@ -27,6 +28,8 @@ ghost use Rattle.record_letters.specs.Laid.{
   offsetsIn,
   storedIn,
   contextIn,
+  localLeftmost,
+  LocalExact,
   ListsLaid,
   EntriesLaid,
   Laid,
@@ -57,15 +60,16 @@ pub fn differences(
         Record::Local(placement) => {
             let strand = placement.strand;
             let left = size8(placement.left);
-            let clipped = left + size8(placement.right);
+            let aligned = size - (left + size8(placement.right));
+            let leftmost = local_leftmost(placement, aligned);
             aligned_differences(
                 section,
                 reference,
                 is_forward(strand),
-                size64(placement.position),
+                leftmost,
                 layout,
                 left,
-                size - clipped,
+                aligned,
                 size,
             )
         }
@@ -164,6 +168,21 @@ fn under_n(section: &[u8], first: usize, count: usize, size: usize, letter: usiz
         k += 1;
     }
     false
+}
+
+// The lowest index of a local record's stretch: it runs up from the position, and on the reverse
+// strand down from it (02, Ticket 2).
+pub fn local_leftmost(placement: Placement, aligned: usize) -> usize
+    requires { ⌜ LocalExact placement aligned ⌝ }
+    requires { ⌜ localLeftmost placement aligned + aligned ≤ maxReferenceBases ⌝ }
+    ensures { λ r. ⌜ r ≡ localLeftmost placement aligned ⌝ }
+{
+    let strand = placement.strand;
+    let position = size64(placement.position);
+    if is_forward(strand) {
+        return position;
+    }
+    position + 1 - aligned
 }
 
 // Whether a strand is the forward one.

@@ -2,6 +2,7 @@
 // then each entry where no N stands (specs/Printed.antt). Entries and N list are walked in the
 // section. The tables are made once and lent to each call.
 use crate::counts::is_forward;
+use crate::counts::local_leftmost;
 use dna::Placement;
 use dna::Record;
 use integers::put_u16;
@@ -38,6 +39,8 @@ ghost use Rattle.record_letters.specs.Laid.{
   fieldsIn,
   storedIn,
   contextIn,
+  localLeftmost,
+  LocalExact,
 };
 ghost use Rattle.record_letters.specs.Printed.{
   pairWord,
@@ -172,7 +175,9 @@ fn put_local(
     at: usize,
 )
     requires { ⌜ (placement .left + placement .right ≤ size)
-        × (StretchFits (now reference) (placement .position)
+        × (LocalExact placement (size - (placement .left + placement .right)))
+        × (StretchFits (now reference)
+        (localLeftmost placement (size - (placement .left + placement .right)))
         (size - (placement .left + placement .right)))
         × (packed + packedLength 4 (placement .left + placement .right) ≤ length (now section))
         × (at + size ≤ length (now out))
@@ -186,7 +191,7 @@ fn put_local(
     let right = size8(placement.right);
     let aligned = size - (left + right);
     put_packed(section, packed, 0, left, forward_table, out, at);
-    put_placed(
+    put_local_stretch(
         reference,
         placement,
         aligned,
@@ -206,7 +211,42 @@ fn put_local(
     );
 }
 
-// Writes the letters of the `aligned` bases of the reference that a placement begins with.
+// Writes the letters of the `aligned` bases of the reference under a local record.
+fn put_local_stretch(
+    reference: &[u8],
+    placement: Placement,
+    aligned: usize,
+    forward_table: &[u64; 256],
+    reverse_table: &[u64; 256],
+    out: &mut [u8],
+    at: usize,
+)
+    requires { ⌜ (LocalExact placement aligned)
+        × (StretchFits (now reference) (localLeftmost placement aligned) aligned)
+        × (at + aligned ≤ length (now out))
+        × (now «forward_table» ≡ wordTable true)
+        × (now «reverse_table» ≡ wordTable false) ⌝ }
+    ensures { λ _. ⌜ now (out .exit)
+        ≡ pasted (now (out .entry)) at
+        (stretchLetters (now (reference .entry)) (isForward (placement .strand))
+        (localLeftmost placement aligned) aligned) ⌝ }
+{
+    let strand = placement.strand;
+    let forward = is_forward(strand);
+    let leftmost = local_leftmost(placement, aligned);
+    put_stretch(
+        reference,
+        forward,
+        leftmost,
+        aligned,
+        forward_table,
+        reverse_table,
+        out,
+        at,
+    );
+}
+
+// Writes the letters of the `aligned` bases of the reference from a placement's position on.
 fn put_placed(
     reference: &[u8],
     placement: Placement,

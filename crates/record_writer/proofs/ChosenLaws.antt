@@ -9,7 +9,7 @@ use Rattle.base.proofs.ListLaws.{by-test}
 use Rattle.dna.specs.Record.{Entry}
 use Rattle.dna.specs.declared.Strand.the-variants as strands
 use Rattle.format.specs.RuleRecord.{Candidate, alignedCount, clippedCodes, candidateEntries}
-use Rattle.format.specs.RuleRecord.{storedPosition, alignedFields, Choice, chooseRaw4}
+use Rattle.format.specs.RuleRecord.{alignedFields, Choice, chooseRaw4}
 use Rattle.format.specs.RuleRecord.{chooseAligned, chooseRaw, choiceFor, isPerfect}
 use Rattle.format.specs.RuleRecord.{writtenAs, written}
 use Rattle.letter_packing.specs.Read.{endCodes}
@@ -28,10 +28,10 @@ module _ (bases : ℕ) (reference : List ℕ) (previous : ℕ) (codes : List ℕ
   entries = candidateEntries reference codes candidate
 
   -- The record at a candidate's place.
-  aligned : recordWritten bases previous (alignedRecord candidate (length entries)) entries codes
+  aligned : recordWritten bases previous (alignedRecord codes candidate (length entries)) entries codes
       ≡ writtenAs chooseAligned bases reference previous codes candidate
   unfolding recordWritten writtenAs alignedRecord alignedFields placementOf fieldsFor offsetsFor
-      forwardFor incrementalFor storedPosition endCodes clippedCodes alignedCount isPerfect
+      forwardFor incrementalFor endCodes clippedCodes alignedCount isPerfect
   aligned =
       by-test (eqb (candidate .left + candidate .right) 0)
       (λ t.
@@ -42,7 +42,8 @@ module _ (bases : ℕ) (reference : List ℕ) (previous : ℕ) (codes : List ℕ
 
   -- The record of a choice.
   pub chosen-as : (choice : Choice)
-      → recordWritten bases previous (chosenRecord choice candidate (length entries)) entries codes
+      → recordWritten bases previous (chosenRecord choice codes candidate (length entries)) entries
+      codes
       ≡ writtenAs choice bases reference previous codes candidate
   unfolding recordWritten writtenAs chosenRecord fieldsFor offsetsFor forwardFor incrementalFor
       isPerfect
@@ -53,8 +54,8 @@ module _ (bases : ℕ) (reference : List ℕ) (previous : ℕ) (codes : List ℕ
   -- The record of the rule's choice.
   pub chosen-written :
       recordWritten bases previous
-      (chosenRecord (choiceFor bases reference codes candidate) candidate (length entries)) entries
-      codes
+      (chosenRecord (choiceFor bases reference codes candidate) codes candidate (length entries))
+      entries codes
       ≡ written bases reference previous codes candidate
   unfolding written
   chosen-written = chosen-as (choiceFor bases reference codes candidate)

@@ -13,7 +13,7 @@ use Rattle.base.specs.Answer.{checked, Scan, found, refused, andThen}
 use Rattle.dna.specs.Record.{ReadContext, RecordFields, StoredRecord, fieldWidth, fieldsBytes}
 use Rattle.dna.specs.Record.{hasNList, packedBytes}
 use Rattle.dna.specs.Alignment.{isAligned, fieldOf, entriesOf, leftOf, rightOf, alignedLength}
-use Rattle.dna.specs.Alignment.{position, leftmost, entryPlaces}
+use Rattle.dna.specs.Alignment.{position, isLocal, runsDown, entryPlaces}
 use Rattle.dna.specs.RecordFaults.{raw4Codes, paddingOf, rawBitStray, spanOutside, clipsInvalid}
 use Rattle.dna.specs.RecordFaults.{laterZero, anyOutside, entryOffsetInvalid, baseCodeInvalid}
 use Rattle.dna.specs.RecordFaults.{paddingNonzero, raw4BitWrong, fieldFaults}
@@ -89,7 +89,7 @@ module _ (context : ReadContext) (list : List ℕ) (at : ℕ) (fields : RecordFi
 
 -- Everything that the faults of a kind's fields compute by.
 unfoldable pub judging : Unit {0}
-unfolding checked fieldFaults rawBitStray isAligned clipsInvalid spanOutside leftmost position
+unfolding checked fieldFaults rawBitStray isAligned clipsInvalid spanOutside isLocal runsDown position
     fieldOf alignedLength leftOf rightOf entryOffsetInvalid entriesOf laterZero anyOutside any
     entryPlaces placesFrom baseCodeInvalid raw4Codes paddingNonzero paddingOf raw4BitWrong hasNList
     recordOf headLength clipBytes fieldWidth

@@ -2,7 +2,7 @@
 use mathlib.Core.Path.{_≡_, refl, sym, ap, ap₂, _∙_}
 use Prim.Native.Nat.{ℕ, _+_, _-_, _*_, _≤_, _<_}
 use native.Mathlib.Omega.{arith}
-use mathlib.Core.Bool.{false, cond, not, _||_}
+use mathlib.Core.Bool.{Bool, false, cond, not, _||_}
 use mathlib.Core.List.{List, [], _∷_}
 use lib.ListN.{length, getD}
 use lib.Dec.{ltb, leb, eqb}
@@ -24,7 +24,8 @@ use Rattle.dna.proofs.RecordComplete.{flag-local}
 use Rattle.dna.proofs.RecordSound.{length-local}
 use Rattle.records.specs.declared.nlist.NList.{NList}
 use Rattle.records.specs.declared.Bits.{Bits}
-use Rattle.records.specs.Decoded.{contextFrom, decodedAt, positionAt, withList, localFaults}
+use Rattle.records.specs.Decoded.{contextFrom, decodedAt, positionAt, withList, localOutside}
+use Rattle.records.specs.Decoded.{localFaults}
 use Rattle.records.specs.declared.Decoded.the-variants as answers
 use Rattle.records.specs.declared.fields.PositionRead.the-variants as positions
 use Rattle.records.proofs.DecodeLaws.{decodedWith, decoded-judged, judging, misfit}
@@ -33,11 +34,11 @@ use Rattle.records.proofs.FlagLaws.{fields-flagged, local-valid}
 use Rattle.records.proofs.PositionLaws.{position-cut, PositionFound, position-found}
 
 -- Their numbers are above 0.
-local-numbered : (list : List ℕ) (entries count clipped size p bases : ℕ)
-    → All (λ f. 0 < f .number) (localFaults list entries count clipped size p bases)
+local-numbered : (list : List ℕ) (entries count clipped size : ℕ) (forward : Bool) (p bases : ℕ)
+    → All (λ f. 0 < f .number) (localFaults list entries count clipped size forward p bases)
 unfolding any localFaults
-local-numbered list entries count clipped size p bases =
-    numbered (localFaults list entries count clipped size p bases) refl
+local-numbered list entries count clipped size forward p bases =
+    numbered (localFaults list entries count clipped size forward p bases) refl
 
 module _ (bits : Bits) (size previous bases : ℕ) (list : List ℕ) (at count : ℕ)
     (kind : bits .perfect ≡ false) (there : at < length list)
@@ -94,10 +95,10 @@ module _ (bits : Bits) (size previous bases : ℕ) (list : List ℕ) (at count :
         → decodedAt (contextFrom bits size previous bases) list at
         ≡ checked answers.Refused
         (fault 12 (endsBefore list (n + count + 2 + packedLength 4 clipped))
-        ∷ localFaults list n count clipped size p bases)
+        ∷ localFaults list n count clipped size (bits .forward) p bases)
         (withList (kinds.Local (placed bits p left right)) n count (n + count + 2)
         (listAt bits size list (n + count + 2 + packedLength 4 clipped)))
-    unfolding judging localAt leftPlace localFaults packedAt
+    unfolding judging localAt leftPlace localFaults localOutside packedAt
     local-read left right clipped is-left is-right sum =
         let w : ℕ = cond (bits .step) 2 4 in
         let place : ℕ = at + 1 + w + count in
@@ -120,7 +121,7 @@ module _ (bits : Bits) (size previous bases : ℕ) (list : List ℕ) (at count :
         ∙ (λ i. checked answers.Refused
         (fault 12 (endsBefore list (f .ends i + count + 2 + packedLength 4 (k i)))
         ∷ fault 16 (eqb (k i) 0 || leb size (k i))
-        ∷ fault 15 (ltb bases (f .is i + aligned i))
+        ∷ fault 15 (localOutside (bits .forward) (f .is i) (aligned i) bases)
         ∷ fault 17 (misfit list count (f .ends) aligned i)
         ∷ fault 19
         (any (λ symbol. not (eqb symbol 0))
@@ -140,7 +141,7 @@ module _ (bits : Bits) (size previous bases : ℕ) (list : List ℕ) (at count :
           ∙ cond-yes _ (lt-ltb (length list) _ h) refl
 
       module _ (room : n + count + 2 + packedLength 4 clipped ≤ length list) (number : ℕ)
-          (first : number ≡ firstNumber (localFaults list n count clipped size p bases)) where
+          (first : number ≡ firstNumber (localFaults list n count clipped size (bits .forward) p bases)) where
         -- A fault fits.
         pub local-refused : 0 < number
             → decodedAt (contextFrom bits size previous bases) list at ≡ answers.Refused number
@@ -148,7 +149,7 @@ module _ (bits : Bits) (size previous bases : ℕ) (list : List ℕ) (at count :
         local-refused some =
             local-read left right clipped is-left is-right sum
             ∙ cond-no _ (le-ltb (length list) _ room)
-            (checked-first answers.Refused (localFaults list n count clipped size p bases) _
+            (checked-first answers.Refused (localFaults list n count clipped size (bits .forward) p bases) _
             (omega arith)
             ∙ ap answers.Refused (sym first))
 
@@ -162,9 +163,9 @@ module _ (bits : Bits) (size previous bases : ℕ) (list : List ℕ) (at count :
         local-accepted none is many listed =
             local-read left right clipped is-left is-right sum
             ∙ cond-no _ (le-ltb (length list) _ room)
-            (checked-none answers.Refused (localFaults list n count clipped size p bases) _
-            (any-firstNumber (localFaults list n count clipped size p bases)
-            (local-numbered list n count clipped size p bases)
+            (checked-none answers.Refused (localFaults list n count clipped size (bits .forward) p bases) _
+            (any-firstNumber (localFaults list n count clipped size (bits .forward) p bases)
+            (local-numbered list n count clipped size (bits .forward) p bases)
             ∙ ap (ltb 0) (sym first ∙ none))
             ∙ (λ i. withList (kinds.Local (sym is i)) n count (n + count + 2)
             (listAt bits size list (n + count + 2 + sym many i)))

@@ -154,13 +154,20 @@ withList record′ entries count packed (lists.Found first places end) =
     })
 withList record′ entries count packed (lists.Refused number) = answers.Refused number
 
+-- 15 of a local record: its stretch runs up from the position, or on the reverse strand down from
+-- it.
+unfoldable pub localOutside : (forward : Bool) (position′ aligned bases : ℕ) → Bool
+localOutside forward position′ aligned bases =
+    cond (not forward) (leb bases position′ || ltb (position′ + 1) aligned)
+    (ltb bases (position′ + aligned))
+
 -- The faults 16, 15, 17 and 19 of a local record whose bytes are there: `entries` is the place of
 -- its entries, `clipped` counts the letters of both ends.
-unfoldable pub localFaults : (list : List ℕ) (entries count clipped readLength position′ bases : ℕ)
-    → List Fault
-localFaults list entries count clipped readLength position′ bases =
+unfoldable pub localFaults : (list : List ℕ) (entries count clipped readLength : ℕ) (forward : Bool)
+    (position′ bases : ℕ) → List Fault
+localFaults list entries count clipped readLength forward position′ bases =
     fault 16 (eqb clipped 0 || leb readLength clipped)
-    ∷ fault 15 (ltb bases (position′ + (readLength - clipped)))
+    ∷ fault 15 (localOutside forward position′ (readLength - clipped) bases)
     ∷ fault 17 (not (entriesFit list entries count (readLength - clipped)))
     ∷ fault 19
     (any (λ symbol. not (eqb symbol 0))

@@ -37,6 +37,7 @@ ghost use Rattle.records.specs.Decoded.{
   strandOf,
   decodedAt,
   withList,
+  localOutside,
   localFaults,
 };
 
@@ -194,7 +195,16 @@ fn decode_local(
     if section.len() - packed < bytes {
         return Decoded::Refused(DNA_TRUNCATED);
     }
-    let number = local_fault(section, entries, count, clipped, size, position, bases);
+    let number = local_fault(
+        section,
+        entries,
+        count,
+        clipped,
+        size,
+        bits.forward,
+        position,
+        bases,
+    );
     if number != 0 {
         return Decoded::Refused(number);
     }
@@ -287,13 +297,14 @@ fn local_fault(
     count: usize,
     clipped: usize,
     size: usize,
+    forward: bool,
     position: u64,
     bases: u64,
 ) -> u32
     requires { ⌜ (entries + count + 2 + packedLength 4 clipped ≤ length (now section))
         × (count < 32) × (size ≤ maxReadLength) × (position < 2 ^ 33) ⌝ }
     ensures { λ r. ⌜ r ≡ firstNumber (localFaults (now (section .entry)) entries count clipped size
-        position bases) ⌝ }
+        forward position bases) ⌝ }
 {
     if clipped == 0 {
         return CLIPS_INVALID;
@@ -302,7 +313,7 @@ fn local_fault(
         return CLIPS_INVALID;
     }
     let aligned = size - clipped;
-    if bases < position + aligned as u64 {
+    if local_outside(forward, position, aligned, bases) {
         return SPAN_OUTSIDE_REFERENCE;
     }
     if !entries_fit(section, entries, count, aligned) {
@@ -312,6 +323,21 @@ fn local_fault(
         return PADDING_NONZERO;
     }
     0
+}
+
+// Whether the stretch of a local record is not inside the reference: it runs up from the position,
+// and on the reverse strand down from it (02, Ticket 2).
+fn local_outside(forward: bool, position: u64, aligned: usize, bases: u64) -> bool
+    requires { ⌜ (aligned ≤ maxReadLength) × (position < 2 ^ 33) ⌝ }
+    ensures { λ r. ⌜ r ≡ localOutside forward position aligned bases ⌝ }
+{
+    if forward {
+        return bases < position + aligned as u64;
+    }
+    if bases <= position {
+        return true;
+    }
+    position + 1 < aligned as u64
 }
 
 // What a record whose fields are right is with the answer of its N list.

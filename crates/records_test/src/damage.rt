@@ -77,11 +77,35 @@ pub fn run_places() {
         forward(),
         5,
     );
+    show(
+        b"reverse local below 0",
+        b"\x00\x01\x00\x00\x00\x01\x01\xc0",
+        none(),
+        5,
+    );
+    show(
+        b"reverse local outside",
+        b"\x00\x0c\x00\x00\x00\x01\x01\xc0",
+        none(),
+        5,
+    );
+    show(
+        b"below 0, entry outside",
+        b"\x08\x01\x00\x00\x00\x14\x01\x01\xc0",
+        none(),
+        5,
+    );
     show(b"clips of 0", b"\x00\x00\x00\x00\x00\x00\x00", forward(), 5);
     show(
         b"clips of 0, outside",
         b"\x00\x0a\x00\x00\x00\x00\x00",
         forward(),
+        5,
+    );
+    show(
+        b"clips of 0, below 0",
+        b"\x00\x01\x00\x00\x00\x00\x00",
+        none(),
         5,
     );
     show(

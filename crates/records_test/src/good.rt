@@ -123,7 +123,19 @@ pub fn run_placed() {
     );
     show(
         b"reverse local",
-        b"\x00\x06\x00\x00\x00\x01\x01\xc0",
+        b"\x00\x08\x00\x00\x00\x01\x01\xc0",
+        none(),
+        5,
+    );
+    show(
+        b"reverse local, first base",
+        b"\x00\x02\x00\x00\x00\x01\x01\xc0",
+        none(),
+        5,
+    );
+    show(
+        b"reverse local, last base",
+        b"\x00\x0b\x00\x00\x00\x01\x01\xc0",
         none(),
         5,
     );

@@ -53,7 +53,7 @@ fn read_groups(
 ) -> Result<Vec<Record>, Refusal> {
     let mut records: Vec<Record> = Vec::new();
     // One running position for the whole block: groups do not restart it and
-    // raw reads leave it alone.
+    // raw reads leave it alone. 02, Ticket 2: "Steps use the stored position".
     let mut previous = 0;
     for (group, group_lengths) in lengths.chunks(8).enumerate() {
         let first_read = records.len() as u64;

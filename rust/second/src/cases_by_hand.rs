@@ -108,7 +108,7 @@ pub const EDGES: &[Row] = &[
     ("position near 2^32", 4, &[0x80, 0x80, 0, 0, 0xFC, 0xFF, 0xFF, 0xFF]),
     ("clips need no room", 5, &[0, 0x80, 0, 0, 0, 9, 0, 0, 0, 1, 1, 0xC0]),
     ("clipped, one too far", 5, &[0, 0x80, 0, 0, 0, 10, 0, 0, 0, 1, 1, 0xC0]),
-    ("reverse local", 5, &[0, 0, 0, 0, 0, 6, 0, 0, 0, 1, 1, 0x90]),
+    ("reverse local", 5, &[0, 0, 0, 0, 0, 8, 0, 0, 0, 1, 1, 0x90]),
     ("reverse global, entry at 1", 4, &[0, 0, 0, 0, 0x0C, 6, 0, 0, 0, 0x07]),
     ("reverse global, filler at 1", 4, &[0, 0, 0, 0, 0x0C, 6, 0, 0, 0, 0x04]),
     ("clips 0 0", 5, &[0, 0x80, 0, 0, 0, 0, 0, 0, 0, 0, 0]),

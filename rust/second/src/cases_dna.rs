@@ -5,7 +5,7 @@
 use crate::cases_by_hand::{Hand, Input};
 
 /// Label, read lengths, N section, DNA section.
-type Section = (&'static str, &'static [u8], &'static [u8], &'static [u8]);
+pub type Section = (&'static str, &'static [u8], &'static [u8], &'static [u8]);
 
 const SECTIONS: &[Section] = &[
     // Each step adds to the position before, itself a step: 4, 6, 8.
@@ -67,7 +67,7 @@ const SECOND_GROUPS: &[(&str, usize, &[u8])] = &[
 
 /// A block of reads shorter than 256 letters: flag 0x1 where they are equally
 /// long, else a size section of one byte a read.
-fn block(lengths: &[u8], n: &[u8], dna: &[u8]) -> Hand {
+pub fn block(lengths: &[u8], n: &[u8], dna: &[u8]) -> Hand {
     let raw_dna = lengths.iter().map(|&length| length as u32).sum();
     let mut hand = Hand::sized(lengths.len() as i32, raw_dna, &[]);
     if lengths.iter().all(|length| length == &lengths[0]) {

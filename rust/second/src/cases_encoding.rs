@@ -3,11 +3,12 @@
 
 use crate::cases_by_hand::{BASES, REFERENCE};
 use crate::cases_names::{named_calls, refused_calls};
+use crate::cases_reverse::reverse_calls;
 use crate::corpus::{stream, Case};
 use crate::generator::{generate_reference, ReferencePlan};
 use crate::name_faults::GIVEN_FAULTS;
 use crate::prng::Prng;
-use crate::proposals::{random_call, spoil_call, EncodeCall, Proposal};
+use crate::proposals::{random_call, spoil_call, stepping_call, EncodeCall, Proposal};
 
 /// The length of the block that a call makes.
 fn block_length(call: &EncodeCall) -> usize {
@@ -17,13 +18,18 @@ fn block_length(call: &EncodeCall) -> usize {
 pub fn encode_cases() -> Vec<Case> {
     let rng = &mut stream("encode");
     let mut calls = calls_by_hand(rng);
-    for index in 0..70 {
+    for index in 0..80 {
         let bases = rng.pick(&[0, 1, 12, 64, 130, 300, 300, 600, 600]);
         let reference = generate_reference(rng, bases);
         let max_length = rng.pick(&[1, 6, 40, 150, 400]);
         let max_reads = rng.pick(&[1, 3, 9, 12]);
         calls
             .push((format!("random {index}"), random_call(rng, &reference, max_reads, max_length)));
+    }
+    for index in 0..6 {
+        let bases = rng.pick(&[1, 12, 64, 300]);
+        let reference = generate_reference(rng, bases);
+        calls.push((format!("steps {index}"), stepping_call(rng, &reference, 20)));
     }
     for (_, call) in &mut calls {
         call.capacity = block_length(call) + rng.pick(&[0, 1, 7, 40]);
@@ -43,6 +49,7 @@ pub fn encode_cases() -> Vec<Case> {
     calls.extend(plain_calls_by_hand());
     calls.extend(named_calls());
     calls.extend(refused_calls());
+    calls.extend(reverse_calls());
     calls.iter().map(|(label, call)| Case::encoding(label, call)).collect()
 }
 
@@ -78,13 +85,13 @@ fn misnamed_calls(rng: &mut Prng) -> Vec<(String, EncodeCall)> {
 }
 
 /// The reference of 01's sums.
-fn sums_reference() -> ReferencePlan {
+pub fn sums_reference() -> ReferencePlan {
     let (letters, bytes) = (b"ACGTACGTTGCA".to_vec(), REFERENCE.to_vec());
     ReferencePlan { bases: BASES, letters, bytes }
 }
 
 /// A read with its candidate.
-fn read(letters: &str, position: u32, strand: u8, left: u8, right: u8) -> Proposal {
+pub fn read(letters: &str, position: u32, strand: u8, left: u8, right: u8) -> Proposal {
     Proposal { letters: letters.as_bytes().to_vec(), position, strand, left, right }
 }
 
@@ -234,11 +241,20 @@ fn written_by_hand() -> Vec<(String, EncodeCall)> {
     // pos_t is set for a step of 0, not for a step back.
     add("step 0", &sums, 0, 0, &[read("C", 5, 1, 0, 0), read("C", 5, 1, 0, 0)]);
     add("step back", &sums, 0, 0, &[read("G", 6, 1, 0, 0), read("C", 5, 1, 0, 0)]);
-    // pos_t is set for a step of 65,535, not for one of 65,536.
+    // pos_t is set for a step of 65,535, not for one of 65,536, and not back.
+    // 02, Ticket 2: "Steps use the stored position", one above the place of a
+    // reverse GTT.
     let letters = vec![b'A'; 65_538];
     let long = ReferencePlan { bases: 65_538, letters, bytes: vec![0; 16_385] };
-    let steps = [1, 65_536, 1, 65_537].map(|position| read("A", position, 1, 0, 0));
-    add("steps 65535 and 65536", &long, 0, 0, &steps);
+    let plain = |position| read("A", position, 1, 0, 0);
+    let turned = |position| read("GTT", position, 2, 1, 0);
+    let steps = [
+        [plain(1), plain(65_536), plain(1), plain(65_537)],
+        [turned(0), plain(65_536), plain(0), turned(65_535)],
+        [turned(0), turned(65_535), plain(1), turned(65_536)],
+        [turned(0), plain(65_537), turned(65_536), plain(65_536)],
+    ];
+    add("steps 65535 and 65536", &long, 0, 0, &steps.concat());
     calls
 }
 

@@ -5,9 +5,10 @@ use crate::cases_blocks::*;
 use crate::cases_by_hand::*;
 use crate::cases_dna::{dna_by_hand, n_word_leaves};
 use crate::cases_names::*;
+use crate::cases_reverse::*;
 use crate::corpus::*;
 use crate::generator::*;
-use crate::mutators::{damage, spoil, spoil_all, spoil_record, BLOCK_NUMBERS};
+use crate::mutators::*;
 use crate::name_faults::SECTION_FAULTS;
 use crate::prng::Prng;
 
@@ -96,6 +97,24 @@ fn names_faults(rng: &mut Prng) -> Vec<Input> {
             }
         };
         inputs.push(Input::of_plan(format!("fault 40: {label}"), &plan));
+    }
+    inputs
+}
+
+/// Generated blocks with each of the faults of a reverse local stretch.
+fn reverse_local_faults(rng: &mut Prng, each: usize) -> Vec<Input> {
+    let mut inputs = Vec::new();
+    for (label, fault) in REVERSE_LOCAL_FAULTS {
+        let mut made = 0;
+        while made < each {
+            let shape = Shape { max_reads: 9, max_name: 3, ..small_shape(rng) };
+            let mut plan = generate(rng, shape);
+            let reads = plan.lengths.len();
+            if (0..reads).any(|read| spoil_reverse_local(&mut plan, read, *fault, rng).is_some()) {
+                inputs.push(Input::of_plan(format!("fault 15: reverse local {label}"), &plan));
+                made += 1;
+            }
+        }
     }
     inputs
 }
@@ -211,6 +230,9 @@ pub fn decode_cases() -> Vec<Case> {
     let by_hand = dna_by_hand().into_iter().chain([n_word_leaves()]);
     cases.extend(by_hand.map(|input| input.case(CaseKind::Decode).lending(16, 12)));
     cases.extend(decode_by_hand());
+    let reverse = [reverse_by_hand(), reverse_refused_by_hand(), reverse_local_faults(rng, 2)];
+    let lend = |input: Input| input.case(CaseKind::Decode).lending(40, 12);
+    cases.extend(reverse.concat().into_iter().map(lend));
     let names = [stored_names_by_hand(), refused_names_by_hand()].concat().into_iter();
     let lend = |input: Input| input.case(CaseKind::Decode).lending(12, 12).lending_names(300, 12);
     cases.extend(names.map(lend));
@@ -288,6 +310,9 @@ pub fn validate_block_cases() -> Vec<Case> {
     inputs.extend(long_n_lists(rng));
     inputs.extend(header_by_hand());
     inputs.extend(stored_names_by_hand());
+    inputs.extend(reverse_by_hand());
+    inputs.extend(reverse_refused_by_hand());
+    inputs.extend(reverse_local_faults(rng, 2));
     inputs.iter().map(|input| input.case(CaseKind::ValidateBlock)).collect()
 }
 
@@ -347,6 +372,7 @@ pub fn validate_cases() -> Vec<Case> {
     cases.push(case("one byte after the last block", &reference, &trailing));
     cases.extend(files_by_hand());
     cases.extend(files_with_names());
+    cases.extend(reverse_files_by_hand());
     cases
 }
 
@@ -365,7 +391,8 @@ fn joined(plans: &[Plan]) -> Vec<u8> {
 }
 
 /// A read of 65,537 letters, turned, with entries and N lists in words; one
-/// of 40,000 after a short one.
+/// of 40,000 after a short one; a reverse local one on bases 65,535 to 0, by a
+/// step from 0.
 pub fn decode_large_cases() -> Vec<Case> {
     let rng = &mut stream("decode_large");
     let reference = generate_reference(rng, 65_537);
@@ -382,9 +409,14 @@ pub fn decode_large_cases() -> Vec<Case> {
     let sizes = [0x00, 0x80, 3, 0x00, 0x80, 0x40, 0x1C];
     let dna = [0x40, 0x40, 0x40, 0x40, 2, 0x18, 0xC1, 0x63, 1, 0x00, 0x80, 0x3F, 0x1C];
     let two = Hand { dna: dna.to_vec(), n: vec![0x40], ..Hand::sized(2, 40_003, &sizes) };
+
+    let sizes = [0x00, 0x80, 3, 0x00, 0x80, 0x00, 0x80, 0x01, 0x00];
+    let dna = [0x80, 0x80, 0x00, 0xC0, 0, 0, 0, 0xFF, 0xFF, 1, 0, 0x40];
+    let local = Hand { dna: dna.to_vec(), n: vec![0], ..Hand::sized(2, 65_540, &sizes) };
     vec![
         lend("65537 letters, reverse, N in words", &turned, 65_540, 2),
         lend("65537 letters, one too few lent", &turned, 65_536, 2),
         lend("3 and 40000 letters", &two, 40_003, 2),
+        lend("3 and 65537 letters, reverse local", &local, 65_540, 2),
     ]
 }

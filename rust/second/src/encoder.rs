@@ -1,6 +1,7 @@
 //! 01, "The writer's fixed rule". "Writer: 1, 30 to 34." 02, Ticket 1, adds 41
-//! "after 33" and the names. The block is built aside and copied out last, so a
-//! refusal leaves the buffer as it was.
+//! "after 33" and the names; Ticket 2 the stored position of a reverse local
+//! read. The block is built aside and copied out last, so a refusal leaves the
+//! buffer as it was.
 
 use crate::header::*;
 use crate::lengths::{write_words, MAX_LENGTH};
@@ -101,7 +102,8 @@ fn cut<'a>(codes: &'a [u8], ends: &[u32]) -> Vec<&'a [u8]> {
     reads
 }
 
-/// What the mapper proposes for one read.
+/// What the mapper proposes for one read. 02, Ticket 2: "proposals keep the
+/// lowest index", on both strands.
 #[derive(Clone, Copy)]
 struct Candidate {
     position: u64,
@@ -238,7 +240,8 @@ fn write_record(
         let global_bit = if clipped { 0 } else { 0b100 };
         out.push((entries.len() as u8) << 3 | global_bit);
     }
-    let pos_t = write_position(candidate.position, previous, out);
+    let position = stored_position(candidate, strand, read.len() as u64);
+    let pos_t = write_position(position, previous, out);
     out.extend(entries);
     if clipped {
         out.push(candidate.left as u8);
@@ -251,7 +254,21 @@ fn write_record(
     [perfect, strand == Strand::Forward, with_n, pos_t]
 }
 
-/// "pos_t is set exactly where the step is 0 to 65,535."
+/// 02, Ticket 2: "a reverse local stretch ends at the position and runs down",
+/// so its highest index is stored; every other record stores the lowest. The
+/// place is one that is used: left+right is below the length.
+fn stored_position(candidate: Candidate, strand: Strand, length: u64) -> u64 {
+    let clipped = candidate.left + candidate.right;
+    if clipped > 0 && strand == Strand::Reverse {
+        let reference_span = length - clipped;
+        candidate.position + reference_span - 1
+    } else {
+        candidate.position
+    }
+}
+
+/// "pos_t is set exactly where the step is 0 to 65,535." 02, Ticket 2: "Steps
+/// use the stored position".
 fn write_position(position: u64, previous: &mut u64, out: &mut Vec<u8>) -> bool {
     let step = position.checked_sub(*previous).and_then(|step| u16::try_from(step).ok());
     *previous = position;

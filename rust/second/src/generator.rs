@@ -298,9 +298,10 @@ fn generate_groups(
     groups
 }
 
+/// Local records are drawn twice as often as others.
 fn feasible_kind(rng: &mut Prng, length: u64, bases: u64) -> RecordKind {
     loop {
-        let kind = rng.pick(&RECORD_KINDS);
+        let kind = if rng.once_in(6) { RecordKind::Local } else { rng.pick(&RECORD_KINDS) };
         let feasible = match kind {
             RecordKind::Perfect | RecordKind::Global => length <= bases,
             RecordKind::Local => length >= 2 && length <= bases + 400 && bases >= 1,
@@ -405,11 +406,24 @@ impl Draft {
         let (left, right) = self.draw_clips(rng, reference.bases);
         let span = self.record.length - left - right;
         self.record.span = span;
-        let position = self.draw_position(rng, reference.bases - span);
-        let stretch = &reference.letters[position as usize..(position + span) as usize];
-        let forward = rng.coin();
+        let is_local = self.record.kind == RecordKind::Local;
+        let forward = if is_local { rng.once_in(3) } else { rng.coin() };
         self.bits[1] = forward;
-        let given = if forward { stretch.to_vec() } else { turned(stretch) };
+        let given = if is_local && !forward {
+            // 02, Ticket 2: "a reverse local stretch ends at the position and
+            // runs down".
+            let position = self.draw_position(rng, span - 1, reference.bases - 1) as usize;
+            turned(&reference.letters[position + 1 - span as usize..=position])
+        } else {
+            // "the lowest reference index of the aligned stretch"
+            let position = self.draw_position(rng, 0, reference.bases - span) as usize;
+            let stretch = &reference.letters[position..position + span as usize];
+            if forward {
+                stretch.to_vec()
+            } else {
+                turned(stretch)
+            }
+        };
 
         let entries = match self.record.kind {
             RecordKind::Perfect => Vec::new(),
@@ -462,13 +476,15 @@ impl Draft {
         (left, clipped - left)
     }
 
-    /// 16 bits are taken for some of the steps they can hold.
-    fn draw_position(&mut self, rng: &mut Prng, most: u64) -> u64 {
+    /// The position as it is stored, and stepped from later. At `low` the
+    /// stretch starts at the reference's first base, at `high` it ends at the
+    /// last. 16 bits are taken for some of the steps they can hold.
+    fn draw_position(&mut self, rng: &mut Prng, low: u64, high: u64) -> u64 {
         let position = match rng.below(8) {
-            0 => 0,
-            1 => most,
-            2 => self.record.previous.min(most),
-            _ => rng.range(0, most),
+            0 => low,
+            1 => high,
+            2 => self.record.previous.clamp(low, high),
+            _ => rng.range(low, high),
         };
         self.placed_at = Some(position);
         let step = position as i64 - self.record.previous as i64;
@@ -559,6 +575,13 @@ impl RecordPlan {
 }
 
 impl Plan {
+    /// Whether a read is local and its Forward bit not set.
+    pub fn is_reverse_local(&self, read: usize) -> bool {
+        let group = &self.groups[read / 8];
+        let forward = group.bytes[1] & (0x80 >> (read % 8)) != 0;
+        group.records[read % 8].kind == RecordKind::Local && !forward
+    }
+
     /// The DNA section before any cut.
     pub fn whole_dna(&self) -> Vec<u8> {
         let mut dna = Vec::new();

@@ -46,6 +46,8 @@ pub mod cases_by_hand;
 
 pub mod cases_dna;
 
+pub mod cases_reverse;
+
 pub mod cases_blocks;
 
 pub mod cases_reading;

@@ -301,6 +301,12 @@ fn spoil_some_record(plan: &mut Plan, number: u32, rng: &mut Prng) -> Option<Fau
 
 /// Numbers 13 to 20 at one read.
 pub fn spoil_record(plan: &mut Plan, read: usize, number: u32, rng: &mut Prng) -> Option<Fault> {
+    if number == SPAN_OUTSIDE_REFERENCE && plan.is_reverse_local(read) {
+        let count = REVERSE_LOCAL_FAULTS.len();
+        let from = rng.below(count as u64) as usize;
+        let mut faults = REVERSE_LOCAL_FAULTS.iter().cycle().skip(from).take(count);
+        return faults.find_map(|(_, fault)| spoil_reverse_local(plan, read, *fault, rng));
+    }
     let bases = plan.reference.letters.len() as u64;
     let group = &mut plan.groups[read / 8];
     let bit = 0x80 >> (read % 8);
@@ -366,6 +372,7 @@ fn spoil_clips(record: &mut RecordPlan, rng: &mut Prng) -> Option<u64> {
     Some(CLIPS)
 }
 
+/// A position from which a stretch that runs up leaves the reference.
 fn spoil_position(
     record: &mut RecordPlan,
     bases: u64,
@@ -377,17 +384,65 @@ fn spoil_position(
         return None;
     }
     let least = (bases + 1).checked_sub(record.span)?;
-    if rng.coin() && (least..=least + 65_535).contains(&(record.previous + 65_535)) {
-        let low = least.saturating_sub(record.previous);
-        let delta = rng.pick(&[low, 65_535]);
-        *pos_t |= bit;
-        record.position = (delta as u16).to_le_bytes().to_vec();
-    } else {
-        let any = rng.range(least, 0xFFFF_FFFF);
-        *pos_t &= !bit;
-        record.position = (rng.pick(&[least, any, 0xFFFF_FFFF]) as u32).to_le_bytes().to_vec();
-    }
+    let mut positions = vec![least, least, rng.range(least, 0xFFFF_FFFF), 0xFFFF_FFFF];
+    let stepped = [record.previous, record.previous + 65_535];
+    positions.extend(stepped.iter().filter(|&&position| position >= least));
+    let position = rng.pick(&positions);
+    put_position(record, position, pos_t, bit, rng);
     Some(SPAN)
+}
+
+/// For a stretch of so many bases and a reference of so many: a position that
+/// puts a reverse local record outside, or None where there is none such.
+pub type ReverseLocalFault = fn(u64, u64, &mut Prng) -> Option<u64>;
+
+/// 02, Ticket 2: "a reverse local stretch ends at the position and runs down",
+/// and 15 is given "where the stretch would start below 0". The first two do so
+/// from a position inside the reference; the others have one past its end.
+pub const REVERSE_LOCAL_FAULTS: &[(&str, ReverseLocalFault)] = &[
+    ("starts 1 below 0", |span, _, _| span.checked_sub(2)),
+    ("starts more than 1 below 0", |span, _, rng| {
+        let most = span.checked_sub(3)?;
+        let any = rng.range(0, most);
+        Some(rng.pick(&[0, any, most]))
+    }),
+    ("ends at G", |_, bases, _| Some(bases)),
+    ("ends past G", |_, bases, rng| {
+        let any = rng.range(bases + 1, 0xFFFF_FFFF);
+        Some(rng.pick(&[bases + 1, any, 0xFFFF_FFFF]))
+    }),
+];
+
+/// Puts one of these faults into a read, or answers None where the read is not
+/// a reverse local one or has no place for it.
+pub fn spoil_reverse_local(
+    plan: &mut Plan,
+    read: usize,
+    fault: ReverseLocalFault,
+    rng: &mut Prng,
+) -> Option<Fault> {
+    if !plan.is_reverse_local(read) {
+        return None;
+    }
+    let group = &mut plan.groups[read / 8];
+    let record = &mut group.records[read % 8];
+    let position = fault(record.span, plan.reference.letters.len() as u64, rng)?;
+    put_position(record, position, &mut group.bytes[3], 0x80 >> (read % 8), rng);
+    Some(Fault::of_record(SPAN_OUTSIDE_REFERENCE, read, SPAN, 0))
+}
+
+/// In 2 bytes for some of the steps they can hold.
+fn put_position(record: &mut RecordPlan, position: u64, pos_t: &mut u8, bit: u8, rng: &mut Prng) {
+    match position.checked_sub(record.previous) {
+        Some(step) if step <= 65_535 && rng.coin() => {
+            *pos_t |= bit;
+            record.position = (step as u16).to_le_bytes().to_vec();
+        }
+        _ => {
+            *pos_t &= !bit;
+            record.position = (position as u32).to_le_bytes().to_vec();
+        }
+    }
 }
 
 fn spoil_entry(record: &mut RecordPlan, rng: &mut Prng) -> Option<u64> {

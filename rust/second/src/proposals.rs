@@ -1,7 +1,7 @@
 //! Calls of the encoder: random and adversarial candidates, names in several
 //! styles, and the faults 1, 30 to 34 and 41. A read is first cut from the
 //! reference, then spoiled with differences and N; its candidate may then be
-//! wrong in any way.
+//! wrong in any way. 02, Ticket 2: "proposals keep the lowest index".
 
 use crate::generator::ReferencePlan;
 use crate::name_faults::spoil_given_names;
@@ -157,13 +157,8 @@ pub fn random_proposal(rng: &mut Prng, reference: &ReferencePlan, length: u64) -
         let most = reference.bases - span;
         let any = rng.range(0, most);
         position = rng.pick(&[any, any, any, most, 0]);
-        let stretch = &reference.letters[position as usize..(position + span) as usize];
         let aligned = left as usize..(left as u64 + span) as usize;
-        letters[aligned.clone()].copy_from_slice(&if strand == 2 {
-            turned(stretch)
-        } else {
-            stretch.to_vec()
-        });
+        put_stretch(&mut letters[aligned.clone()], reference, position, strand);
         put_differences(rng, &mut letters[aligned]);
     }
     put_n(rng, &mut letters);
@@ -172,6 +167,36 @@ pub fn random_proposal(rng: &mut Prng, reference: &ReferencePlan, length: u64) -
         spoil_candidate(rng, reference.bases, span, &mut proposal);
     }
     proposal
+}
+
+/// Short reads, most of them reverse and clipped, on places near each other or
+/// about 65,535 bases apart: steps around both ends of what 2 bytes hold, from
+/// and to reverse local records. The reference has a base at least.
+pub fn stepping_call(rng: &mut Prng, reference: &ReferencePlan, reads: usize) -> EncodeCall {
+    let mut proposals: Vec<Proposal> = Vec::new();
+    let mut before = 0;
+    for _ in 0..reads {
+        let span = rng.range(1, reference.bases.min(9));
+        let strand = rng.pick(&[1, 2, 2]);
+        let (left, right) = rng.pick(&[(0, 0), (1, 0), (0, 1), (2, 3)]);
+        let last = reference.bases - span;
+        let near = rng.pick(&[before, before, before + 65_535, 0, last]);
+        let off = rng.range(0, 20) as i64 - 10;
+        let position = (near as i64 + off).clamp(0, last as i64) as u64;
+        let mut letters: Vec<u8> = (0..left + span + right).map(|_| rng.pick(b"ACGT")).collect();
+        let aligned = left as usize..(left + span) as usize;
+        put_stretch(&mut letters[aligned], reference, position, strand);
+        let [left, right] = [left, right].map(|clip| clip as u8);
+        proposals.push(Proposal { letters, position: position as u32, strand, left, right });
+        before = position;
+    }
+    EncodeCall::new(reference, &proposals, rng.next_u64(), rng.next_u64())
+}
+
+/// The aligned letters of a read, as the reference gives them.
+fn put_stretch(aligned: &mut [u8], reference: &ReferencePlan, position: u64, strand: u8) {
+    let stretch = &reference.letters[position as usize..][..aligned.len()];
+    aligned.copy_from_slice(&if strand == 2 { turned(stretch) } else { stretch.to_vec() });
 }
 
 /// None, some, or left+right around the length.
@@ -226,14 +251,16 @@ fn put_n(rng: &mut Prng, letters: &mut [u8]) {
     }
 }
 
-/// A place just past the end, anywhere at all, any strand byte, any clips.
+/// A place just past the end, anywhere at all, the highest index for the
+/// lowest, any strand byte, any clips.
 fn spoil_candidate(rng: &mut Prng, bases: u64, span: u64, proposal: &mut Proposal) {
     let any = rng.next_u64() as u32;
-    match rng.below(5) {
+    match rng.below(6) {
         0 => proposal.position = (bases + 1).saturating_sub(span) as u32,
         1 => proposal.position = rng.pick(&[0xFFFF_FFFF, bases as u32, any]),
         2 => proposal.strand = rng.byte(),
         3 => proposal.strand = 3 - proposal.strand.min(3),
+        4 => proposal.position += span.max(1) as u32 - 1,
         _ => {
             proposal.left = rng.byte();
             proposal.right = rng.byte();

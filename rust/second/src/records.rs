@@ -1,6 +1,7 @@
 //! 01, "Records": one record, its five kinds, and what it defines. The
 //! checks stand in 01's order: "12 or 14 at the flag byte, 12 for the rest up
-//! to the N list, then 13, 16, 15, 17, 18, 19; then the list".
+//! to the N list, then 13, 16, 15, 17, 18, 19; then the list". 02, Ticket 2,
+//! places the stretch of a reverse local record.
 
 use crate::lengths::FULL_WORD;
 use crate::letters::{packed_bytes, padding_is_zero, unpack, LETTERS, N_CODE};
@@ -43,8 +44,19 @@ pub struct Bits {
     pub pos_t: bool,
 }
 
-/// A placed record "carries its own place". The position is the leftmost
-/// reference index; left and right are the clips, 0 but for a local record.
+impl Bits {
+    fn strand(self) -> Strand {
+        if self.forward {
+            Strand::Forward
+        } else {
+            Strand::Reverse
+        }
+    }
+}
+
+/// A placed record "carries its own place". The position is the stored one,
+/// which a later step is added to; `Record::stretch` tells where the stretch
+/// lies. Left and right are the clips, 0 but for a local record.
 #[derive(Clone, Copy, Debug, PartialEq, Eq)]
 pub struct Placement {
     pub position: u64,
@@ -91,7 +103,7 @@ pub fn read_record(
     let fields = read_fields(dna, flag, bits, length, previous)?;
     check_stray_bits(flag, bits)?;
     check_clips(flag, &fields, length)?;
-    check_span(flag, &fields, length, reference)?;
+    check_span(flag, bits, &fields, length, reference)?;
     let entries = check_entries(flag, &fields, length)?;
     check_codes(flag, &fields)?;
     check_padding(&fields)?;
@@ -99,7 +111,7 @@ pub fn read_record(
 
     let place = Placement {
         position: fields.position,
-        strand: if bits.forward { Strand::Forward } else { Strand::Reverse },
+        strand: bits.strand(),
         left: fields.left,
         right: fields.right,
     };
@@ -209,7 +221,8 @@ fn read_fields<'a>(
 }
 
 /// "Position: 4 bytes, or with pos_t set 2 bytes added to the position of the
-/// nearest earlier read". The sum is not reduced.
+/// nearest earlier read". The sum is not reduced. 02, Ticket 2: "Steps use the
+/// stored position".
 fn read_position(dna: &mut Cursor, bits: Bits, previous: u64) -> Result<u64, u32> {
     if bits.pos_t {
         let position_delta = dna.take(2)?;
@@ -237,13 +250,36 @@ fn check_clips(flag: Flag, fields: &Fields, length: u64) -> Result<(), u32> {
     Ok(())
 }
 
-/// 15: "stretch outside the reference".
-fn check_span(flag: Flag, fields: &Fields, length: u64, reference: &Reference) -> Result<(), u32> {
-    let reference_span = length - fields.left - fields.right;
-    if !flag.tag.is_raw() && !reference.holds(fields.position, reference_span) {
-        return Err(SPAN_OUTSIDE_REFERENCE);
+/// 15: "stretch outside the reference"; 02, Ticket 2: "also given where the
+/// stretch would start below 0, at its old place".
+fn check_span(
+    flag: Flag,
+    bits: Bits,
+    fields: &Fields,
+    length: u64,
+    reference: &Reference,
+) -> Result<(), u32> {
+    if flag.tag.is_raw() {
+        return Ok(());
     }
-    Ok(())
+    let reference_span = length - fields.left - fields.right;
+    let is_local = flag.tag == Tag::Local;
+    match lowest_index(is_local, bits.strand(), fields.position, reference_span) {
+        Some(lowest) if reference.holds(lowest, reference_span) => Ok(()),
+        _ => Err(SPAN_OUTSIDE_REFERENCE),
+    }
+}
+
+/// Where a stretch starts; None where it "would start below 0". The position
+/// is "the lowest reference index of the aligned stretch", but for a reverse
+/// local record. 02, Ticket 2: "a reverse local stretch ends at the position
+/// and runs down".
+fn lowest_index(is_local: bool, strand: Strand, position: u64, span: u64) -> Option<u64> {
+    if is_local && strand == Strand::Reverse {
+        (position + 1).checked_sub(span)
+    } else {
+        Some(position)
+    }
 }
 
 /// 17: "6 bits of offset from the entry before, the first from the first
@@ -363,10 +399,20 @@ impl Record {
         }
     }
 
-    /// What the reference gives for the aligned part, as printed.
-    fn aligned(&self, place: &Placement, reference: &Reference) -> Vec<u8> {
+    /// The stretch of a placed record: its lowest reference index, and how many
+    /// bases it has.
+    pub fn stretch(&self) -> Option<(u64, u64)> {
+        let place = self.placement()?;
         let span = self.length - place.left - place.right;
-        reference.stretch(place.position, span, place.strand)
+        let is_local = matches!(self.kind, Kind::Local(..));
+        Some((lowest_index(is_local, place.strand, place.position, span)?, span))
+    }
+
+    /// What the reference gives for the aligned part of a placed record, as
+    /// printed. A stretch that would start below 0 has got 15.
+    fn aligned(&self, place: &Placement, reference: &Reference) -> Vec<u8> {
+        let (lowest, span) = self.stretch().unwrap();
+        reference.stretch(lowest, span, place.strand)
     }
 
     /// "differences: entries that aren't fillers and don't stand under an N";

@@ -34,16 +34,16 @@ impl<'a> Reference<'a> {
         (byte >> (6 - 2 * (index % 4))) & 3
     }
 
-    /// Whether a stretch lies inside the reference.
-    pub fn holds(&self, position: u64, span: u64) -> bool {
-        position + span <= self.bases
+    /// Whether a stretch lies inside the reference. It is given by its lowest
+    /// index here and below, on both strands.
+    pub fn holds(&self, lowest: u64, span: u64) -> bool {
+        lowest + span <= self.bases
     }
 
-    /// A stretch as the read shows it. The position is "the lowest reference
-    /// index of the aligned stretch, for both strands. A reverse read takes
-    /// the stretch reversed and complemented."
-    pub fn stretch(&self, position: u64, span: u64, strand: Strand) -> Vec<u8> {
-        let forward = (position..position + span).map(|index| self.base(index));
+    /// A stretch as the read shows it: "A reverse read takes the stretch
+    /// reversed and complemented."
+    pub fn stretch(&self, lowest: u64, span: u64, strand: Strand) -> Vec<u8> {
+        let forward = (lowest..lowest + span).map(|index| self.base(index));
         match strand {
             Strand::Forward => forward.collect(),
             Strand::Reverse => forward.rev().map(complement).collect(),

@@ -1,13 +1,14 @@
 //! Property: the corpus in the tree is the one that is made, walks front to
-//! back, keeps its limits, and meets every number, every record kind and every
-//! type of a column of names.
+//! back, keeps its limits, and meets every number, every record kind, reverse
+//! local records at both ends of a reference and every type of a column of
+//! names.
 //! Catches: a corpus gone stale, or one that no longer tests a refusal.
 
 use second::blocks::read_block;
 use second::corpus::*;
 use second::corpus_cases::{corpus, corpus_files, RUN};
-use second::records::Kind;
-use second::reference::Reference;
+use second::records::{Kind, Record};
+use second::reference::{Reference, Strand};
 use std::collections::BTreeSet;
 use std::path::{Path, PathBuf};
 
@@ -118,13 +119,31 @@ fn every_number_is_met() {
     assert_eq!(numbers("decode_large").0, BTreeSet::from([0, 22]));
 }
 
-/// How often each kind stands in the accepted blocks of a case file.
-fn kinds(blocks: &[(u64, Vec<u8>, Vec<u8>)]) -> [usize; 5] {
-    let mut kinds = [0; 5];
-    for (bases, reference, block) in blocks {
-        let Ok(reference) = Reference::new(*bases, reference) else { continue };
-        let Ok(block) = read_block(&reference, block) else { continue };
-        for record in block.records {
+/// The records of the accepted blocks of a case file, each with the bases of
+/// its reference. Of a file of blocks the first is taken.
+fn records(file: &CaseFile) -> Vec<(u64, Record)> {
+    let mut records = Vec::new();
+    for case in &file.cases {
+        let call = &case.call;
+        let mut block = case.input.clone();
+        if case.kind == CaseKind::Encode {
+            block = vec![0; call.capacity];
+            call.run(&mut block);
+        }
+        let Ok(reference) = Reference::new(call.bases, &call.reference) else { continue };
+        let Ok(block) = read_block(&reference, &block) else { continue };
+        records.extend(block.records.into_iter().map(|record| (call.bases, record)));
+    }
+    records
+}
+
+const WITH_RECORDS: [&str; 4] = ["decode", "validate_block", "validate", "encode"];
+
+#[test]
+fn every_record_kind_is_met() {
+    for file in corpus().iter().filter(|file| WITH_RECORDS.contains(&file.name)) {
+        let mut kinds = [0; 5];
+        for (_, record) in records(file) {
             kinds[match record.kind {
                 Kind::Perfect(..) => 0,
                 Kind::Global(..) => 1,
@@ -133,27 +152,29 @@ fn kinds(blocks: &[(u64, Vec<u8>, Vec<u8>)]) -> [usize; 5] {
                 Kind::Raw4(..) => 4,
             }] += 1;
         }
+        assert!(kinds.iter().all(|&count| count >= 20), "{} {kinds:?}", file.name);
     }
-    kinds
 }
 
+/// Reverse local records of two bases or more: all of them, those on the first
+/// base, and those on the last.
 #[test]
-fn every_record_kind_is_met() {
-    for file in corpus() {
-        let mut blocks = Vec::new();
-        for case in &file.cases {
-            let call = &case.call;
-            let mut block = case.input.clone();
-            if case.kind == CaseKind::Encode {
-                block = vec![0; call.capacity];
-                call.run(&mut block);
+fn reverse_local_records_are_met() {
+    for file in corpus().iter().filter(|file| WITH_RECORDS.contains(&file.name)) {
+        let mut met = [0; 3];
+        for (bases, record) in records(file) {
+            let (Kind::Local(place, ..), Some((lowest, span))) = (&record.kind, record.stretch())
+            else {
+                continue;
+            };
+            if place.strand == Strand::Reverse && span > 1 {
+                assert_eq!(place.position, lowest + (span - 1));
+                met[0] += 1;
+                met[1] += (lowest == 0) as u32;
+                met[2] += (lowest + span == bases) as u32;
             }
-            blocks.push((call.bases, call.reference.clone(), block));
         }
-        if ["decode", "validate_block", "validate", "encode"].contains(&file.name) {
-            let kinds = kinds(&blocks);
-            assert!(kinds.iter().all(|&count| count >= 20), "{} {kinds:?}", file.name);
-        }
+        assert!(met[0] >= 20 && met[1] >= 4 && met[2] >= 4, "{} {met:?}", file.name);
     }
 }
 

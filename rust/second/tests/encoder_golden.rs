@@ -93,15 +93,16 @@ fn no_reads() {
     assert!(block[6..42].iter().all(|&byte| byte == 0));
 }
 
-/// GTT at 6 turned is AAC; T before, N after. Ends T and A (for N): 11 00 and
-/// padding, C0. The N is at 4. Local, no entries: flag 00. Forward not set.
+/// GTT at 6 turned is AAC; T before, N after. It ends at 8, which is stored.
+/// Ends T and A (for N): 11 00 and padding, C0. The N is at 4. Local, no
+/// entries: flag 00. Forward not set.
 #[test]
 fn reverse_local_with_n() {
     assert_eq!(
         dna(&[("TAACN", 6, 2, 1, 1)]),
         [
             0x00, 0x00, 0x80, 0x80, // group
-            0x00, 6, 0, 1, 1, 0xC0, // flag, step, left, right, ends
+            0x00, 8, 0, 1, 1, 0xC0, // flag, step, left, right, ends
             1, 4, 0, // N list
         ]
     );

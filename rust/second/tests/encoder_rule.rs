@@ -1,14 +1,14 @@
 //! Property: the encoder's block is, byte for byte, the one that 01's fixed
 //! rule names; the rule is worked out here a second time, on ASCII letters.
-//! Catches: another choice of kind, fillers at other steps, pos_t or size
-//! bits set otherwise, a column of names in another coding, header fields that
-//! should be 0.
+//! Catches: another choice of kind, fillers at other steps, another position
+//! stored, pos_t or size bits set otherwise, a column of names in another
+//! coding, header fields that should be 0.
 
 use second::generator::{generate_reference, ReferencePlan};
 use second::prng::Prng;
-use second::proposals::{random_call, EncodeCall};
+use second::proposals::{random_call, stepping_call, EncodeCall};
 
-/// One read's record and its four bits.
+/// One read's record and its four bits, and the position that is stored.
 struct Written {
     bits: [bool; 4],
     bytes: Vec<u8>,
@@ -110,9 +110,13 @@ fn record(reference: &[u8], call: &EncodeCall, index: usize, previous: i64) -> W
     if !perfect {
         bytes.push(entries.len() as u8 * 8 + if left + right == 0 { 4 } else { 0 });
     }
-    let step = position as i64 - previous;
+    // 02, Ticket 2: a reverse local read has its highest index stored.
+    let aligned = read.len() - left - right;
+    let moves = strand == 2 && left + right > 0;
+    let stored = position as i64 + if moves { aligned as i64 - 1 } else { 0 };
+    let step = stored - previous;
     let pos_t = (0..=65_535).contains(&step);
-    let field = if pos_t { step } else { position as i64 };
+    let field = if pos_t { step } else { stored };
     bytes.extend(&field.to_le_bytes()[..if pos_t { 2 } else { 4 }]);
     bytes.extend(entries);
     if left + right > 0 {
@@ -121,7 +125,7 @@ fn record(reference: &[u8], call: &EncodeCall, index: usize, previous: i64) -> W
         bytes.extend(bits_text(&ends, 2));
     }
     bytes.extend(n_list(&n_places));
-    Written { bits: [perfect, strand == 1, with_n, pos_t], bytes, position: Some(position as i64) }
+    Written { bits: [perfect, strand == 1, with_n, pos_t], bytes, position: Some(stored) }
 }
 
 fn sizes(lengths: &[usize]) -> Vec<u8> {
@@ -255,10 +259,14 @@ fn expected_block(reference: &ReferencePlan, call: &EncodeCall) -> Vec<u8> {
 fn check(rng: &mut Prng, bases: u64, reads: u64, max_length: u64) {
     let reference = generate_reference(rng, bases);
     let call = random_call(rng, &reference, reads, max_length);
+    check_call(&reference, &call);
+}
+
+fn check_call(reference: &ReferencePlan, call: &EncodeCall) {
     let mut out = vec![0; call.capacity];
     let outcome = call.run(&mut out);
     assert_eq!(outcome.number, 0);
-    assert_eq!(out[..outcome.length as usize], expected_block(&reference, &call));
+    assert_eq!(out[..outcome.length as usize], expected_block(reference, call));
 }
 
 #[test]
@@ -277,4 +285,38 @@ fn long_reads() {
     for _ in 0..20 {
         check(&mut rng, 150_000, 4, 100_000);
     }
+}
+
+/// Steps around both ends of what two bytes hold. The stored step and the one
+/// between lowest indices fall on different sides often.
+#[test]
+fn steps_of_reverse_local_reads() {
+    let mut rng = Prng::new(33);
+    let mut other_side = 0;
+    for _ in 0..400 {
+        let bases = rng.pick(&[1, 12, 40, 66_000, 140_000]);
+        let reference = generate_reference(&mut rng, bases);
+        let call = stepping_call(&mut rng, &reference, 30);
+        check_call(&reference, &call);
+        let stored = stored_positions(&call);
+        for read in 1..stored.len() {
+            let fits = |step: i64| (0..=65_535).contains(&step);
+            let lowest = call.positions[read] as i64 - call.positions[read - 1] as i64;
+            other_side += (fits(stored[read] - stored[read - 1]) != fits(lowest)) as u32;
+        }
+    }
+    assert!(other_side > 500, "{other_side}");
+}
+
+/// What is stored for the reads of a call that are all placed.
+fn stored_positions(call: &EncodeCall) -> Vec<i64> {
+    let ends: Vec<i64> = call.ends.iter().map(|&end| end as i64).collect();
+    (0..ends.len())
+        .map(|read| {
+            let length = ends[read] - if read == 0 { 0 } else { ends[read - 1] };
+            let clipped = call.lefts[read] as i64 + call.rights[read] as i64;
+            let moves = call.strands[read] == 2 && clipped > 0;
+            call.positions[read] as i64 + if moves { length - clipped - 1 } else { 0 }
+        })
+        .collect()
 }

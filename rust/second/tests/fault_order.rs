@@ -1,9 +1,10 @@
 //! Property: of two faults in a block, the one that 01 puts first is told,
 //! with its read index. Catches: checks done in another order, a check left
-//! out, a read index taken from the group or counted from 1.
+//! out, a reverse local stretch judged one base off, a read index taken from
+//! the group or counted from 1.
 
 use second::generator::{generate, Plan, Shape};
-use second::mutators::{first, spoil, spoil_all, spoil_record, Fault, BLOCK_NUMBERS};
+use second::mutators::*;
 use second::prng::Prng;
 use second::*;
 
@@ -137,5 +138,66 @@ fn three_faults() {
         if !faults.is_empty() {
             check(&plan, &faults, "three");
         }
+    }
+}
+
+/// A block with a reverse local read, and its index; the last, where it must
+/// be.
+fn with_reverse_local(rng: &mut Prng, last: bool) -> (Plan, usize) {
+    loop {
+        let shape = shape(rng);
+        let plan = generate(rng, shape);
+        let reads = plan.lengths.len() as u64;
+        let Some(end) = reads.checked_sub(1) else { continue };
+        let read = if last { end } else { rng.below(reads) } as usize;
+        if plan.is_reverse_local(read) {
+            return (plan, read);
+        }
+    }
+}
+
+/// 02, Ticket 2: each way out of the reference gives 15 at the read, in either
+/// width of the position, and after 16, but before 17, 19 and 20.
+#[test]
+fn faults_of_a_reverse_local_stretch() {
+    let mut rng = Prng::new(15);
+    for &(label, fault) in REVERSE_LOCAL_FAULTS {
+        let mut widths = [0; 5];
+        let mut beside = [0; 21];
+        for _ in 0..2000 {
+            let (mut plan, read) = with_reverse_local(&mut rng, false);
+            let Some(outside) = spoil_reverse_local(&mut plan, read, fault, &mut rng) else {
+                continue;
+            };
+            assert_eq!((outside.number, outside.read), (SPAN_OUTSIDE_REFERENCE, read as u64));
+            check(&plan, &[outside], label);
+            widths[plan.groups[read / 8].records[read % 8].position.len()] += 1;
+            let number = rng.pick(&[14, 16, 17, 19, 20]);
+            if let Some(other) = spoil_record(&mut plan, read, number, &mut rng) {
+                check(&plan, &[outside, other], label);
+                beside[number as usize] += 1;
+            }
+        }
+        assert!(widths[2] > 50 && widths[4] > 50, "{label} {widths:?}");
+        let all = [14, 16, 17, 19, 20].map(|number| beside[number]);
+        assert!(all.iter().all(|&count| count > 20), "{label} {all:?}");
+    }
+}
+
+/// One base further in, the block is accepted: from the first base up, and
+/// from the last base down.
+#[test]
+fn a_reverse_local_stretch_that_just_fits() {
+    let mut rng = Prng::new(16);
+    for _ in 0..1000 {
+        let (mut plan, read) = with_reverse_local(&mut rng, true);
+        let bases = plan.reference.bases;
+        let group = &mut plan.groups[read / 8];
+        group.bytes[3] &= !(0x80 >> (read % 8));
+        let record = &mut group.records[read % 8];
+        let positions = [record.span - 1, bases - 1];
+        record.position = (rng.pick(&positions) as u32).to_le_bytes().to_vec();
+        let outcome = validate_block(bases, &plan.reference.bytes, &plan.block());
+        assert_eq!(outcome.number, 0);
     }
 }

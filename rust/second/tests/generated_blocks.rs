@@ -97,3 +97,59 @@ fn every_kind_coding_and_strand_is_met() {
     assert!(short_positions > 50 && long_positions > 50);
     assert!(same > 50 && bytes > 50 && fillers > 50 && without_reads > 5);
 }
+
+/// The read index and the stored position of each placed record, worked out
+/// from the fields.
+fn stored_positions(plan: &Plan) -> Vec<(usize, u64)> {
+    let mut stored: Vec<(usize, u64)> = Vec::new();
+    let records = plan.groups.iter().flat_map(|group| &group.records);
+    for (read, record) in records.enumerate() {
+        let field = record.position.iter().rev().fold(0, |sum, &byte| 256 * sum + byte as u64);
+        let before = stored.last().map_or(0, |&(_, position)| position);
+        match record.position.len() {
+            0 => {}
+            2 => stored.push((read, before + field)),
+            _ => stored.push((read, field)),
+        }
+    }
+    stored
+}
+
+/// Of more bases than one, at the first base and at the last, and by steps from
+/// and to them.
+#[test]
+fn reverse_local_records_are_met() {
+    let mut rng = Prng::new(4);
+    let (mut records, mut met) = (0, 0);
+    let (mut first, mut last, mut inside) = (0, 0, 0);
+    let (mut stepped_to, mut stepped_from) = (0, 0);
+    for _ in 0..600 {
+        let shape = Shape {
+            bases: rng.pick(&[12, 65, 300]),
+            max_reads: 18,
+            max_length: rng.pick(&[4, 40, 150]),
+            max_carried: 0,
+            max_name: 1,
+        };
+        let plan = generate(&mut rng, shape);
+        records += plan.lengths.len();
+        let stored = stored_positions(&plan);
+        let record = |read: usize| &plan.groups[read / 8].records[read % 8];
+        for (index, &(read, position)) in stored.iter().enumerate() {
+            if !plan.is_reverse_local(read) || record(read).span < 2 {
+                continue;
+            }
+            met += 1;
+            let lowest = position as i64 - record(read).span as i64 + 1;
+            assert!(lowest >= 0 && position < plan.reference.bases);
+            first += (lowest == 0) as u32;
+            last += (position + 1 == plan.reference.bases) as u32;
+            inside += (lowest > 0 && position + 1 < plan.reference.bases) as u32;
+            stepped_to += (record(read).position.len() == 2) as u32;
+            let next = stored.get(index + 1).map(|&(read, _)| record(read).position.len());
+            stepped_from += (next == Some(2)) as u32;
+        }
+    }
+    assert!(met * 20 > records, "{met} of {records}");
+    assert!([first, last, inside, stepped_to, stepped_from].iter().all(|&count| count > 80));
+}

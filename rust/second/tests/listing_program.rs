@@ -11,7 +11,7 @@ use second::listing::listing;
 use second::listing_cases::{cases, listing_files, sample};
 use second::prng::Prng;
 use second::records::Kind;
-use second::reference::Reference;
+use second::reference::{Reference, Strand};
 use std::path::{Path, PathBuf};
 use std::process::{Command, Stdio};
 
@@ -46,6 +46,7 @@ fn the_sample_has_all_five_kinds() {
     let bases = u64::from_le_bytes(sample.reference[..8].try_into().unwrap());
     let reference = Reference::new(bases, &sample.reference[8..]).unwrap_or_else(|_| panic!());
     let mut kinds = [0; 5];
+    let mut reverse_local = 0;
     let mut rest = &sample.blocks[..];
     while !rest.is_empty() {
         let block = read_block(&reference, rest).unwrap_or_else(|_| panic!());
@@ -57,10 +58,14 @@ fn the_sample_has_all_five_kinds() {
                 Kind::Raw(..) => 3,
                 Kind::Raw4(..) => 4,
             }] += 1;
+            if let (Kind::Local(place, ..), Some((_, span))) = (&record.kind, record.stretch()) {
+                reverse_local += (place.strand == Strand::Reverse && span > 1) as u32;
+            }
         }
         rest = &rest[block.length as usize..];
     }
     assert!(kinds.iter().all(|&count| count > 0), "{kinds:?}");
+    assert!(reverse_local > 0);
 }
 
 /// The program, or nothing where it is not built.

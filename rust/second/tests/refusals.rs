@@ -294,6 +294,34 @@ fn refuses_15_past_reference_end() {
     assert_eq!(one(5, &[0, 0x80, 0, 0, 0, 10, 0, 0, 0, 1, 1, 0xC0]), (15, 0));
 }
 
+/// 02, Ticket 2: 15 "where the stretch would start below 0". Three aligned
+/// letters of a reverse local read end at the position.
+#[test]
+fn refuses_15_reverse_local_outside() {
+    let three = |position: u8| one(5, &[0, 0, 0, 0, 0, position, 0, 0, 0, 1, 1, 0x90]);
+    assert_eq!(three(0), (15, 0));
+    assert_eq!(three(1), (15, 0));
+    assert_eq!(three(2), (0, 0));
+    assert_eq!(three(11), (0, 0));
+    assert_eq!(three(12), (15, 0));
+    // One aligned letter has its own place.
+    let one_base = |position: u8| one(2, &[0, 0, 0, 0, 0, position, 0, 0, 0, 1, 0, 0x80]);
+    assert_eq!(one_base(0), (0, 0));
+    assert_eq!(one_base(11), (0, 0));
+    assert_eq!(one_base(12), (15, 0));
+    // Nothing else moves: forward local, reverse perfect, reverse global.
+    for position in [0, 9] {
+        assert_eq!(one(5, &[0, 0x80, 0, 0, 0, position, 0, 0, 0, 1, 1, 0x90]), (0, 0));
+        assert_eq!(one(3, &[0x80, 0, 0, 0, position, 0, 0, 0]), (0, 0));
+        assert_eq!(one(3, &[0, 0, 0, 0, 0x0C, position, 0, 0, 0, 0]), (0, 0));
+    }
+    for position in [10, 11] {
+        assert_eq!(one(5, &[0, 0x80, 0, 0, 0, position, 0, 0, 0, 1, 1, 0x90]), (15, 0));
+        assert_eq!(one(3, &[0x80, 0, 0, 0, position, 0, 0, 0]), (15, 0));
+        assert_eq!(one(3, &[0, 0, 0, 0, 0x0C, position, 0, 0, 0, 0]), (15, 0));
+    }
+}
+
 #[test]
 fn refuses_15_step_past_reference_end() {
     let dna = |step: u8| [0xC0, 0xC0, 0, 0x40, 5, 0, 0, 0, step, 0];

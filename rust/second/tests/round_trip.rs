@@ -1,12 +1,13 @@
 //! Property: what the encoder writes decodes to the same letters, names and
 //! ends, whatever the candidates. Catches: a count of 32 cut to 31, a filler
-//! with a wrong letter, a place used past the reference's end, N lost or moved,
-//! wrong size codings, a leading zero lost, a step cut to its width.
+//! with a wrong letter, a place used past the reference's end, a place stored
+//! otherwise than it is read, N lost or moved, wrong size codings, a leading
+//! zero lost, a step cut to its width.
 
 use second::corpus::Lent;
 use second::generator::generate_reference;
 use second::prng::Prng;
-use second::proposals::{random_call, EncodeCall};
+use second::proposals::{random_call, stepping_call, EncodeCall};
 use second::*;
 
 fn check(call: &EncodeCall) {
@@ -46,6 +47,17 @@ fn long_reads() {
     let reference = generate_reference(&mut rng, 150_000);
     for _ in 0..40 {
         check(&random_call(&mut rng, &reference, 5, 100_000));
+    }
+}
+
+/// Most reads are reverse and clipped; steps of about 0 and 65,535.
+#[test]
+fn reverse_local_reads() {
+    let mut rng = Prng::new(24);
+    for _ in 0..400 {
+        let bases = rng.pick(&[1, 2, 12, 40, 66_000, 140_000]);
+        let reference = generate_reference(&mut rng, bases);
+        check(&stepping_call(&mut rng, &reference, 30));
     }
 }
 

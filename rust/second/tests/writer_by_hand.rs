@@ -1,14 +1,16 @@
 //! Property: the corpus' calls of the writer by hand give the blocks and
 //! numbers worked out from 01's fixed rule. Catches: a byte of the block in
 //! another place, 0x1 without reads, 32 N in a list, a step of 65,536 in two
-//! bytes, a step back, a refusal out of order, room counted one off.
+//! bytes, a step back, a step from or to a reverse local read's lowest index, a
+//! refusal out of order, room counted one off.
 
 mod common;
 use common::*;
-use second::corpus::FILL;
+use second::corpus::{Lent, FILL};
 use second::*;
 
-/// The block that an accepted call writes; the room past it stays.
+/// The block that an accepted call writes; the room past it stays. It reads
+/// back.
 fn written(label: &str) -> Vec<u8> {
     let cases = Cases::of("encode");
     let call = &cases.labelled(label).call;
@@ -17,6 +19,10 @@ fn written(label: &str) -> Vec<u8> {
     assert_eq!(outcome, accepted(outcome.length, [0; 4]), "{label}");
     let past = out.split_off(outcome.length as usize);
     assert!(past.iter().all(|&byte| byte == FILL), "{label}");
+    let (letters, ends) = (call.letters.len(), call.ends.len());
+    let mut lent = Lent::new(letters, ends, call.names.len(), ends);
+    assert_eq!(lent.decode(call.bases, &call.reference, &out).number, 0, "{label}");
+    assert!(lent.letters == call.letters && lent.ends == call.ends, "{label}");
     out
 }
 
@@ -95,10 +101,34 @@ fn thirty_one_n_make_a_list_and_thirty_two_raw4() {
 fn steps() {
     assert_eq!(dna("step 0"), [0xC0, 0xC0, 0, 0xC0, 5, 0, 0, 0]);
     assert_eq!(dna("step back"), [0xC0, 0xC0, 0, 0x80, 6, 0, 5, 0, 0, 0]);
-    // At 1, 65,536, 1, 65,537: steps of 1 and 65,535, back, a step of 65,536.
-    let mut expected = vec![0xF0, 0xF0, 0, 0xC0];
-    expected.extend([1, 0, 0xFF, 0xFF, 1, 0, 0, 0, 1, 0, 1, 0]);
-    assert_eq!(dna("steps 65535 and 65536"), expected);
+}
+
+/// A reverse local read steps from and to its highest index, here its place
+/// and one more: counted from the lowest, the steps marked with a star would
+/// fall on the other side.
+#[test]
+fn wide_steps() {
+    let expected = [
+        &[0xF6, 0xF6, 0, 0xC4][..],   // group
+        &[1, 0],                      // perfect at 1
+        &[0xFF, 0xFF],                // perfect, step 65,535
+        &[1, 0, 0, 0],                // perfect, back at 1
+        &[1, 0, 1, 0],                // perfect, step 65,536
+        &[0, 1, 0, 0, 0, 1, 0, 0x80], // local, back at 1
+        &[0xFF, 0xFF],                // perfect, step 65,535 *
+        &[0, 0, 0, 0],                // perfect, back at 0
+        &[0, 0, 0, 1, 0, 1, 0, 0x80], // local, step 65,536 *
+        &[0x25, 0x25, 0, 0x42],       // group
+        &[0, 1, 0, 0, 0, 1, 0, 0x80], // local, back at 1
+        &[0, 0xFF, 0xFF, 1, 0, 0x80], // local, step 65,535
+        &[1, 0, 0, 0],                // perfect, back at 1
+        &[0, 1, 0, 1, 0, 1, 0, 0x80], // local, step 65,536 *
+        &[0, 1, 0, 0, 0, 1, 0, 0x80], // local, back at 1
+        &[1, 0, 1, 0],                // perfect, step 65,536
+        &[0, 0, 0, 1, 0, 0x80],       // local, step 0 *
+        &[0, 0, 1, 0],                // perfect, back at 65,536 *
+    ];
+    assert_eq!(dna("steps 65535 and 65536"), expected.concat());
 }
 
 #[test]

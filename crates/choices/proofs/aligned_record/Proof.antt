@@ -19,11 +19,11 @@ add-if1 : tie.Need-add-if1
 add-if1 c = search needs
 
 returns : tie.Need-returns
-returns c =
+returns c = λ codes same.
     let made = c .before .before .before in
     let a = made .before .args in
-    record-local (candidateOf (a .position) (a .strand) (a .left) (a .right)) (a .entries)
-    (made .placement-of .result) (made .placement-of .ensures)
+    record-local codes (candidateOf (a .position) (a .strand) (a .left) (a .right)) (a .entries)
+    (made .placement-of .result) (made .placement-of .ensures codes same)
     (omega (
       arith,
       c .if1 .taken,
@@ -32,12 +32,12 @@ returns c =
     ))
 
 returns-2 : tie.Need-returns-2
-returns-2 c =
+returns-2 c = λ codes same.
     let p2 = c .before .before in
     let made = p2 .before .before in
     let a = made .before .args in
-    record-perfect (candidateOf (a .position) (a .strand) (a .left) (a .right)) (a .entries)
-    (made .placement-of .result) (made .placement-of .ensures)
+    record-perfect codes (candidateOf (a .position) (a .strand) (a .left) (a .right)) (a .entries)
+    (made .placement-of .result) (made .placement-of .ensures codes same)
     (omega (
       arith,
       c .before .if1 .left,
@@ -47,12 +47,12 @@ returns-2 c =
     (c .if2 .taken)
 
 returns-3 : tie.Need-returns-3
-returns-3 c =
+returns-3 c = λ codes same.
     let p2 = c .before .before in
     let made = p2 .before .before in
     let a = made .before .args in
-    record-global (candidateOf (a .position) (a .strand) (a .left) (a .right)) (a .entries)
-    (made .placement-of .result) (made .placement-of .ensures)
+    record-global codes (candidateOf (a .position) (a .strand) (a .left) (a .right)) (a .entries)
+    (made .placement-of .result) (made .placement-of .ensures codes same)
     (omega (
       arith,
       c .before .if1 .left,

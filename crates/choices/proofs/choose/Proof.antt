@@ -4,6 +4,8 @@ use native.Mathlib.Omega.{arith}
 use borrow.Author.Needs.{needs}
 use borrow.Author.Tests.{not-true, not-false}
 use Rattle.format.specs.RuleRecord.{Candidate}
+use Rattle.letter_packing.specs.Read.{codesIn}
+use Rattle.letter_packing.proofs.ReadLaws.{length-codesIn}
 use Rattle.choices.specs.Choice.{candidateOf}
 use Rattle.choices.proofs.PlaceLaws.{fits-inside, stretch-fits}
 use Rattle.choices.proofs.ChoiceLaws.{raw4-chosen, unfit-chosen, over-chosen, used-chosen}
@@ -74,8 +76,20 @@ returns-3 c =
     (omega (arith, start .pre .4, put .put-place .kept .1 .1 .1 .1 .1 .1 .1 .1 .1 .1 .0))
     (tested .before .if1 .left) (put .put-place .ensures) (c .if3 .taken)
 
+sub-aligned-record : tie.Need-sub-aligned-record
+sub-aligned-record c = search needs
+
 aligned-record-requires : tie.Need-aligned-record-requires
-aligned-record-requires c κs = search needs
+aligned-record-requires c κs =
+    let tested = c .before .before .before .before .before .before in
+    let start = tested .before .before .before .before .before .before in
+    let a = start .args in (
+      fits-inside (a .bases) (a .to - a .from)
+          (candidateOf (a .position) (a .strand) (a .left) (a .right))
+          (tested .place-fits .result) (tested .place-fits .ensures)
+          (not-false _ (c .before .before .before .before .before .if2 .left)) .0,
+      omega (arith, start .pre .1 .sized),
+    )
 
 same-length-2 : tie.Need-same-length-2
 same-length-2 c = search needs
@@ -96,7 +110,9 @@ returns-4 c =
     _ (tested .place-fits .ensures) (not-false _ (put .before .before .if2 .left))
     (start .pre .0)
     (start .pre .4) (put .put-place .ensures) (left .if3 .left) (c .aligned-record .result)
-    (c .aligned-record .ensures)
+    (c .aligned-record .ensures (codesIn (a .letters .now) (a .from) (a .to))
+    (length-codesIn (a .letters .now) (a .from) (a .to) (start .pre .1 .ordered)
+    (start .pre .1 .inside)))
 
 pub choose-spec : {M : Type 1} → statement M
 choose-spec =
@@ -110,6 +126,7 @@ choose-spec =
     put-place-requires
     same-length
     returns-3
+    sub-aligned-record
     aligned-record-requires
     same-length-2
     returns-4)

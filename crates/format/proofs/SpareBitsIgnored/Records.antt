@@ -32,7 +32,7 @@ use Rattle.dna.specs.Walk.{ofRead, lastPosition, readsAt, groupAt, groupsAt, se
 use Rattle.dna.specs.Rules.{SpanHolds, EntriesHold}
 use Rattle.dna.proofs.ReferenceLaws.{stretchIndex-inside}
 use Rattle.dna.proofs.OffsetLaws.{tests-steps, place-inside}
-use Rattle.dna.proofs.RulesMean.{inside-span}
+use Rattle.dna.proofs.StretchMeans.{span-holds, leftmost-inside}
 use Rattle.dna.proofs.CountsMean.{with-entries}
 use Rattle.dna.proofs.WalkLaws.{readsFrom-append}
 use Rattle.format.specs.SpareBits.{SameBases}
@@ -66,7 +66,7 @@ unfolding referenceIndex
 index-inside context fields k inside aligned h =
     omega (
       arith,
-      inside .span aligned,
+      leftmost-inside context fields (inside .span) aligned,
       stretchIndex-inside (context .forward) (leftmost context fields) (alignedLength context fields) k h,
     )
 
@@ -156,7 +156,7 @@ record-inside context fields none =
     let f₁₇ = or-neither (entryOffsetInvalid context fields) _ (f₁₅ .1) in
     let steps = or-neither (laterZero (map (λ entry. entry .offset) (entriesOf fields))) _ (f₁₇ .0) in
     record {
-      span = inside-span context fields (f₁₅ .0);
+      span = span-holds context fields (f₁₅ .0);
       entries = tests-steps (alignedLength context fields) _ (steps .0) (steps .1);
     }
 

@@ -14,8 +14,9 @@ use Rattle.base.proofs.ListLaws.{by-test, length-build, all-build, below-at}
 use Rattle.base.proofs.GroupLaws.{map-build}
 use Rattle.base.proofs.StepsLaws.{length-places, last-place}
 use Rattle.base.proofs.Tests.{absurd-test, neither-or}
-use Rattle.dna.specs.Reference.{alphabet, letterOfCode}
+use Rattle.dna.specs.Reference.{ReferenceFits, alphabet, letterOfCode}
 use Rattle.dna.specs.Sizes.{lengthInvalid}
+use Rattle.dna.proofs.ReferenceLaws.{reference-length}
 use Rattle.tokens.proofs.OneCount.{count-one}
 use Rattle.format.specs.RuleBlock.{codeOfLetter}
 use Rattle.format.specs.EncodeAnswer.{EncodeInput, readsOfInput, candidatesOf}
@@ -92,7 +93,6 @@ unfolding candidatesOf
 candidates-fit input lent =
     all-build CandidateFits (length (input .ends)) _ (λ k h.
     record {
-      position = below-at (input .positions) (omega arith) (lent .positions) k;
       left = below-at (input .lefts) (omega arith) (lent .lefts) k;
       right = below-at (input .rights) (omega arith) (lent .rights) k;
     })
@@ -102,12 +102,13 @@ unfolding candidatesOf
 candidates-count input = length-build (length (input .ends)) _
 
 -- What is lent fits the rule.
-pub rule-fits : (reads names : List (List ℕ)) (input : EncodeInput) → LentFits input → Writable reads names input
-    → RuleFits (input .id) (input .time) (codesOf reads) names (candidatesOf input)
-rule-fits reads names input lent w =
+pub rule-fits : (bases : ℕ) (reference : List ℕ) (reads names : List (List ℕ)) (input : EncodeInput) → ReferenceFits bases reference
+    → LentFits input → Writable reads names input → RuleFits bases (input .id) (input .time) (codesOf reads) names (candidatesOf input)
+rule-fits bases reference reads names input fits lent w =
     let many : length (codesOf reads) ≡ length reads = length-map reads (map codeOfLetter) in
     record {
       reads-fit = record {
+        bounded = omega (arith, reference-length fits .0);
         few = omega (arith, w .few);
         valid = ap (any lengthInvalid) (codes-lengths reads) ∙ all-valid reads (w .lengths);
         below = reads-below reads (w .letters);

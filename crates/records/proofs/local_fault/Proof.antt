@@ -1,10 +1,10 @@
 -- `records::local_fault` meets its contract: at each `return` the tests that led there say which
 -- row fits. Assumes nothing.
 use mathlib.Core.Path.{sym, ap, _∙_}
-use Prim.Native.Nat.{_+_, _-_}
+use Prim.Native.Nat.{_+_}
 use mathlib.Core.Bool.{not}
 use borrow.Author.Needs.{needs}
-use borrow.Author.Tests.{lt-ltb, le-ltb, le-leb, lt-leb, eq-eqb, ne-eqb}
+use borrow.Author.Tests.{le-leb, lt-leb, eq-eqb, ne-eqb}
 use Rattle.base.specs.Answer.{checked}
 use Rattle.records.specs.Decoded.{localFaults}
 use Rattle.records.proofs.DecodeLaws.{padding-nonzero}
@@ -25,19 +25,19 @@ returns-2 c =
 sub-aligned : tie.Need-sub-aligned
 sub-aligned c = search needs
 
-add-if3 : tie.Need-add-if3
-add-if3 c = search needs
+local-outside-requires : tie.Need-local-outside-requires
+local-outside-requires c κs = search needs
 
 returns-3 : tie.Need-returns-3
 unfolding checked localFaults
 returns-3 c =
-    let p2 = c .before in
+    let p2 = c .before .before in
     let p1 = p2 .before in
     let a = p1 .before .before .args in
     simp (
       ne-eqb (a .clipped) 0 (p1 .if1 .left),
       lt-leb (a .size) (a .clipped) (p2 .if2 .left),
-      lt-ltb (a .bases) (a .position + (a .size - a .clipped)) (c .if3 .taken),
+      sym (c .before .local-outside .ensures) ∙ c .if3 .taken,
     )
 
 entries-fit-requires : tie.Need-entries-fit-requires
@@ -47,13 +47,13 @@ returns-4 : tie.Need-returns-4
 unfolding checked localFaults
 returns-4 c =
     let p3 = c .before .before in
-    let p2 = p3 .before in
+    let p2 = p3 .before .before in
     let p1 = p2 .before in
     let a = p1 .before .before .args in
     simp (
       ne-eqb (a .clipped) 0 (p1 .if1 .left),
       lt-leb (a .size) (a .clipped) (p2 .if2 .left),
-      le-ltb (a .bases) (a .position + (a .size - a .clipped)) (p3 .if3 .left),
+      sym (p3 .before .local-outside .ensures) ∙ p3 .if3 .left,
       ap not (sym (c .before .entries-fit .ensures)) ∙ c .if4 .taken,
     )
 
@@ -71,13 +71,13 @@ unfolding checked localFaults
 returns-5 c =
     let p4 = c .before .before in
     let p3 = p4 .before .before in
-    let p2 = p3 .before in
+    let p2 = p3 .before .before in
     let p1 = p2 .before in
     let a = p1 .before .before .args in
     simp (
       ne-eqb (a .clipped) 0 (p1 .if1 .left),
       lt-leb (a .size) (a .clipped) (p2 .if2 .left),
-      le-ltb (a .bases) (a .position + (a .size - a .clipped)) (p3 .if3 .left),
+      sym (p3 .before .local-outside .ensures) ∙ p3 .if3 .left,
       ap not (sym (p4 .before .entries-fit .ensures)) ∙ p4 .if4 .left,
       padding-nonzero 4 4 (a .section .now) (a .entries + a .count + 2) (a .clipped)
           (c .before .padding-is-zero2 .ensures) (c .if5 .taken),
@@ -88,13 +88,13 @@ unfolding checked localFaults
 returns-6 c =
     let p4 = c .before .before in
     let p3 = p4 .before .before in
-    let p2 = p3 .before in
+    let p2 = p3 .before .before in
     let p1 = p2 .before in
     let a = p1 .before .before .args in
     simp (
       ne-eqb (a .clipped) 0 (p1 .if1 .left),
       lt-leb (a .size) (a .clipped) (p2 .if2 .left),
-      le-ltb (a .bases) (a .position + (a .size - a .clipped)) (p3 .if3 .left),
+      sym (p3 .before .local-outside .ensures) ∙ p3 .if3 .left,
       ap not (sym (p4 .before .entries-fit .ensures)) ∙ p4 .if4 .left,
       padding-nonzero 4 4 (a .section .now) (a .entries + a .count + 2) (a .clipped)
           (c .before .padding-is-zero2 .ensures) (c .if5 .left),
@@ -107,7 +107,7 @@ local-fault-spec =
     returns
     returns-2
     sub-aligned
-    add-if3
+    local-outside-requires
     returns-3
     entries-fit-requires
     returns-4

@@ -2,10 +2,11 @@
 use mathlib.Core.Path.{_≡_, sym, ap, ap₂, subst, _∙_}
 use Prim.Native.Nat.{ℕ, _+_, _-_, _≤_}
 use native.Mathlib.Omega.{arith}
+use Rattle.dna.specs.Reference.{maxReferenceBases}
 use Rattle.dna.specs.declared.Placement.{Placement}
 use Rattle.dna.specs.declared.Record.{Record}
 use Rattle.dna.specs.declared.Record.the-variants as kinds
-use Rattle.record_letters.specs.Laid.{EntriesLaid, PlacedIn}
+use Rattle.record_letters.specs.Laid.{localLeftmost, LocalExact, EntriesLaid, PlacedIn}
 use Rattle.record_letters.proofs.CountLaws.{differencesOf, no-perfect, no-raw, no-raw4}
 use Rattle.record_letters.proofs.CountLaws.{of-global, of-local}
 use borrow.Author.Needs.{needs}
@@ -27,20 +28,23 @@ global c =
     (c .«record» .given .1) (p .pre .placed)
 
 local : (c : tie.After-record2)
-    → (c .record2 .given .0 .0 .left + c .record2 .given .0 .0 .right
-    ≤ c .before .before .before .before .args .size)
-    × EntriesLaid (c .before .before .before .before .args .section .now)
+    → PlacedIn (c .before .before .before .before .args .section .now)
     (c .before .before .before .before .args .reference .now)
+    (c .before .before .before .before .args .size) (kinds.Local (c .record2 .given .0 .0))
     (c .before .before .before .before .args .layout)
-    (c .record2 .given .0 .0 .position)
-    (c .before .before .before .before .args .size
-    - (c .record2 .given .0 .0 .left + c .record2 .given .0 .0 .right))
 local c =
     let p = c .before .before .before .before in
     let a = p .args in
     subst
     (λ (r : Record). PlacedIn (a .section .now) (a .reference .now) (a .size) r (a .layout))
     (c .record2 .given .1) (p .pre .placed)
+
+-- Its clips, as they are read.
+clips : (c : tie.After-size82)
+    → let r = c .before .before .before in
+    r .record2 .given .0 .0 .left + r .record2 .given .0 .0 .right
+    ≡ c .before .size8 .result + c .size82 .result
+clips c = omega (arith, c .before .size8 .ensures .0, c .size82 .ensures .0)
 
 enum-told : tie.Need-enum-told
 enum-told c = search needs
@@ -76,46 +80,46 @@ size8-requires c κs = search needs
 size8-requires-2 : tie.Need-size8-requires-2
 size8-requires-2 c κs = search needs
 
-add-clipped : tie.Need-add-clipped
-add-clipped c = search needs
+add-aligned : tie.Need-add-aligned
+add-aligned c = search needs
+
+sub-aligned : tie.Need-sub-aligned
+sub-aligned c = omega (arith, clips c, local (c .before .before .before) .0)
+
+local-leftmost-requires : tie.Need-local-leftmost-requires
+local-leftmost-requires c κs =
+    let r = c .before .before .before in
+    let a = r .before .before .before .before .args in
+    let placement : Placement = r .record2 .given .0 .0 in (
+      subst (λ (n : ℕ). LocalExact placement (a .size - n)) (clips c) (local r .1),
+      subst
+          (λ (n : ℕ).
+          localLeftmost placement (a .size - n) + (a .size - n) ≤ maxReferenceBases)
+          (clips c) (local r .2 .stretch .small),
+    )
 
 is-forward-requires-2 : tie.Need-is-forward-requires-2
 is-forward-requires-2 c κs = search needs
 
-size64-requires-2 : tie.Need-size64-requires-2
-size64-requires-2 c κs = search needs
-
-sub-aligned-differences : tie.Need-sub-aligned-differences
-sub-aligned-differences c =
-    let s = c .before .before .before in
-    omega (
-      arith,
-      s .size8 .ensures .0,
-      c .before .before .size82 .ensures .0,
-      local (s .before .before) .0,
-    )
-
 aligned-differences-requires-2 : tie.Need-aligned-differences-requires-2
 aligned-differences-requires-2 c κs =
-    let s = c .before .before .before in
-    let r = s .before .before in
+    let read = c .before .before in
+    let r = read .before .before .before in
     let p = r .before .before .before .before in
     let a = p .args in
-    let clipped : r .record2 .given .0 .0 .left + r .record2 .given .0 .0 .right
-    ≡ s .size8 .result + c .before .before .size82 .result =
-    omega (arith, s .size8 .ensures .0, c .before .before .size82 .ensures .0) in (
+    let placement : Placement = r .record2 .given .0 .0 in (
       p .pre .lists,
       subst
-          (λ (n : ℕ).
-          EntriesLaid (a .section .now) (a .reference .now) (a .layout) (c .size642 .result)
-          (a .size - n))
-          clipped
-          (subst
           (λ (i : ℕ).
           EntriesLaid (a .section .now) (a .reference .now) (a .layout) i
-          (a .size - (r .record2 .given .0 .0 .left + r .record2 .given .0 .0 .right)))
-          (sym (c .size642 .ensures .0)) (local r .1)),
-      omega (arith, local r .0),
+          (a .size - (read .before .size8 .result + read .size82 .result)))
+          (sym (c .before .local-leftmost .ensures))
+          (subst
+          (λ (n : ℕ).
+          EntriesLaid (a .section .now) (a .reference .now) (a .layout)
+          (localLeftmost placement (a .size - n)) (a .size - n))
+          (clips read) (local r .2)),
+      omega (arith, clips read, local r .0),
     )
 
 enum-told-2 : tie.Need-enum-told-2
@@ -146,16 +150,19 @@ returns-2 c =
 
 returns-3 : tie.Need-returns-3
 returns-3 c =
-    let f = c .before .before in
-    let s = f .before .before in
-    let r = s .before .before in
+    let f = c .before in
+    let leftmost = f .before in
+    let right = leftmost .before in
+    let left = right .before in
+    let r = left .before .before in
     let a = r .before .before .before .before .args in
     c .aligned-differences2 .ensures
     ∙ of-local (a .section .now) (a .reference .now) (a .size) (a .layout)
-    (r .record2 .given .0 .0) (f .is-forward2 .result) (c .before .size642 .result)
-    (f .is-forward2 .ensures) (c .before .size642 .ensures .0) (s .size8 .result)
-    (a .size - (s .size8 .result + f .before .size82 .result)) (s .size8 .ensures .0)
-    (ap₂ (λ (m n : ℕ). a .size - (m + n)) (s .size8 .ensures .0) (f .before .size82 .ensures .0))
+    (r .record2 .given .0 .0) (f .is-forward2 .result) (leftmost .local-leftmost .result)
+    (f .is-forward2 .ensures) (left .size8 .result)
+    (a .size - (left .size8 .result + right .size82 .result)) (left .size8 .ensures .0)
+    (ap₂ (λ (m n : ℕ). a .size - (m + n)) (left .size8 .ensures .0) (right .size82 .ensures .0))
+    (leftmost .local-leftmost .ensures)
     ∙ ap (differencesOf (a .section .now) (a .reference .now) (a .size) (a .layout))
     (sym (r .record2 .given .1))
 
@@ -185,10 +192,10 @@ differences-spec =
     enum-known-record-2
     size8-requires
     size8-requires-2
-    add-clipped
+    add-aligned
+    sub-aligned
+    local-leftmost-requires
     is-forward-requires-2
-    size64-requires-2
-    sub-aligned-differences
     aligned-differences-requires-2
     enum-told-2
     enum-told-3

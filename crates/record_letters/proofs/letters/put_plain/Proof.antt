@@ -85,7 +85,8 @@ put-local-requires c κs =
     let p = r .before .before .before .before .before in
     let part = placed p _ (r .record3 .given .1) in (
       part .0,
-      part .1 .stretch,
+      part .1,
+      part .2 .stretch,
       packed p _ (r .record3 .given .1),
       omega (arith, p .pre .1),
       p .pre .2,
