@@ -47,8 +47,8 @@
 #include <stddef.h>
 #include <stdint.h>
 
-/* Raised whenever a function of this file changes. */
-#define ORA_INTERFACE_VERSION 2
+/* Raised whenever a function of this file changes, in its arguments or in its answers. */
+#define ORA_INTERFACE_VERSION 3
 
 #define ORA_ANSWER_SLOTS 16
 
@@ -230,10 +230,12 @@ uint64_t ora_validate(uint64_t bases, const uint8_t *reference, size_t reference
  * and `name_ends` are their names, one a read, of 1 to 255 bytes of 32 to 126 each. A name is cut
  * into tokens where digits meet other bytes, and all names have the same number of tokens. The
  * other four have one element for each read, the place that an aligner proposes for it: `positions`
- * the lowest reference index, `strands` 1 for forward, 2 for reverse and any other number for no
- * place, `lefts` and `rights` how many letters stand before and after the aligned ones. No proposal
- * is refused: where it cannot be used, the read is written without a place. The block reads back as
- * these letters, ends, names and name ends, whatever the proposals; its flag 0x8 is set.
+ * the lowest reference index of the aligned letters, `strands` 1 for forward, 2 for reverse and any
+ * other number for no place, `lefts` and `rights` how many letters stand before and after the
+ * aligned ones. The lowest index is meant on both strands, with such letters and without; for a
+ * reverse read with them the block stores the highest. No proposal is refused: where it cannot be
+ * used, the read is written without a place. The block reads back as these letters, ends, names and
+ * name ends, whatever the proposals; its flag 0x8 is set.
  *
  * A block takes at most 3440 + letters_len / 2 + 256 * ends_len + 4 * names_len bytes; this one
  * sentence is held by tests and not by proof.

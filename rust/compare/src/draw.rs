@@ -46,6 +46,7 @@ const FAMILIES: &[Family] = &[
     (50, "long names, written", writings::names::long),
     (250, "gaps", writings::gaps),
     (150, "written steps", writings::steps),
+    (100, "written steps of clipped reads", writings::clipped_steps),
     (80, "written on the largest reference", writings::on_the_largest),
     (100, "corpus, written", writings::corpus),
     (100, "long reads, written", writings::long_reads),

@@ -2,6 +2,7 @@
 //! second implementation reads it.
 
 mod names;
+mod reverse;
 
 use crate::case::{Reading, Sizes, Writing, ENDS, NAMES, NAME_ENDS};
 use crate::paths::Path;
@@ -44,15 +45,16 @@ pub fn of_reading(
     tally.path_if(Path::FileEmpty, file[0] == 0 && input.is_empty());
     tally.path_if(Path::FileJoined, file[0] == 0 && file[3] >= 2);
     tally.path_if(Path::FileLaterBlock, file[0] != 0 && file[1] > 0);
+    tally.path_if(Path::RefusedAfter100, judged[2] >= 100);
     match judged[0] {
-        0 => {}
         5 => tally.path_if(Path::NegativeHeader, i32_at(input, 2) < 0),
         7 => tally.path_if(Path::NegativeReads, i32_at(input, 50) < 0),
         8 => tally.path_if(Path::SumAbove32Bits, told_length(input) > u32::MAX as u64),
         9 => tally.path_if(Path::NegativeLength, input[42] & 1 == 1 && i32_at(input, 46) < 0),
         10 => tally.path_if(Path::LettersAbove32Bits, told_letters(input) > u32::MAX as u64),
+        15 => reverse::of_refused(reading, judged[2], tally),
         40 => names::of_refused(input, tally),
-        _ => tally.path_if(Path::RefusedAfter100, judged[2] >= 100),
+        _ => {}
     }
     if judged[0] != 0 {
         return;
@@ -70,6 +72,7 @@ pub fn of_reading(
     if let (Ok(header), Ok(block)) = (Header::read(input), read_block(&reference, input)) {
         of_header(&header, tally);
         of_records(&reference, &block.records, tally);
+        reverse::of_accepted(&reference, input, &block.records, tally);
         names::of_accepted(&header, input, &block.names, tally);
         let unread = !header.names_stored() && fits && lent[ENDS] > 0;
         tally.path_if(Path::NamesNoRoom, unread && lent[NAMES] + lent[NAME_ENDS] == 0);
@@ -161,6 +164,7 @@ fn of_record(reference: &Reference, record: &Record, tally: &mut Tally) {
 }
 
 fn of_placed(reference: &Reference, record: &Record, place: &Placement, tally: &mut Tally) {
+    let Some((lowest, span)) = record.stretch() else { return };
     let forward = place.strand == Strand::Forward;
     tally.path(match (&record.kind, forward) {
         (Kind::Perfect(_), true) => Path::PerfectForward,
@@ -170,9 +174,8 @@ fn of_placed(reference: &Reference, record: &Record, place: &Placement, tally: &
         (_, true) => Path::LocalForward,
         (_, false) => Path::LocalReverse,
     });
-    let span = record.length - place.left - place.right;
     tally.path_if(Path::PositionAbove31Bits, place.position > i32::MAX as u64);
-    tally.path_if(Path::LastBase, !reference.holds(place.position, span + 1));
+    tally.path_if(Path::LastBase, !reference.holds(lowest, span + 1));
     tally.path_if(Path::Clip255Left, place.left == 255);
     tally.path_if(Path::Clip255Right, place.right == 255);
     tally.path_if(Path::Clips510, place.left + place.right == 510);
@@ -204,6 +207,7 @@ pub fn of_writing(writing: &Writing, block: &[u8], tally: &mut Tally) {
     };
     tally.path_if(Path::WrittenEqual, header.same_length());
     names::of_written(header.section(block, second::header::NAMES), tally);
+    reverse::of_written(&read.records, tally);
     for (index, record) in read.records.iter().enumerate() {
         tally.path_if(Path::WrittenN31, record.n_positions.len() == 31);
         tally.path(match &record.kind {
@@ -248,13 +252,14 @@ fn why_raw(writing: &Writing, index: usize, length: u64) -> Path {
 
 /// The gaps between differences of a written record, and its fillers.
 fn of_entries(reference: &Reference, record: &Record, tally: &mut Tally) {
-    let Some(place) = record.placement() else { return };
-    let span = record.length - place.left - place.right;
+    let (Some(place), Some((lowest, span))) = (record.placement(), record.stretch()) else {
+        return;
+    };
     tally.path_if(Path::Written31, record.entries().len() == 31);
     if record.entries().is_empty() {
         return;
     }
-    let given = reference.stretch(place.position, span, place.strand);
+    let given = reference.stretch(lowest, span, place.strand);
     let mut before = 0;
     for entry in record.entries() {
         if given[entry.place as usize] == entry.code {

@@ -64,6 +64,12 @@ paths! {
     StepOverGroups: "a step out of an earlier group";
     PositionAbove31Bits: "a position above 31 bits";
     LastBase: "a stretch that ends with the reference";
+    ReverseLocalFirst: "a reverse local stretch from base 0";
+    ReverseLocalLast: "a reverse local stretch that ends with the reference";
+    ReverseLocalAbove31Bits: "a reverse local stretch above 31 bits";
+    ReverseLocal1: "a reverse local read of 1 aligned letter";
+    StepFromReverseLocal: "a step of 2 bytes from a reverse local read";
+    StepToReverseLocal: "a step of 2 bytes to a reverse local read";
     Group1: "a last group of 1";
     Group2: "a last group of 2";
     Group3: "a last group of 3";
@@ -86,6 +92,9 @@ paths! {
     SumAbove32Bits: "refused: a block length above 32 bits";
     LettersAbove32Bits: "refused: a sum of lengths above 32 bits";
     RefusedAfter100: "refused after 100 reads";
+    ReverseLocalBelow0: "refused with 15: a reverse local stretch that would start below 0";
+    ReverseLocalMinus1: "refused with 15: a reverse local stretch that would start at -1";
+    ReverseLocalPast: "refused with 15: a reverse local stretch that would end one too far";
     FileEmpty: "the empty file";
     FileJoined: "a file of two blocks or more";
     FileLaterBlock: "a file refused after its first block";
@@ -145,6 +154,11 @@ paths! {
     WrittenLocal: "written: local";
     WrittenRaw: "written: raw";
     WrittenRaw4: "written: raw4";
+    WrittenReverseLocal: "written: reverse local";
+    WrittenBack1: "written: a step of -1 from or to a reverse local read";
+    WrittenStep0: "written: a step of 0 from or to a reverse local read";
+    WrittenStep65535: "written: a step of 65,535 from or to a reverse local read";
+    WrittenStep65536: "written: a step of 65,536 from or to a reverse local read";
     Gap63: "written: a gap of 63, no filler";
     Gap64: "written: a gap of 64, a filler";
     Gap126: "written: a gap of 126, a filler";

@@ -8,7 +8,7 @@ use second::mutators::spoil;
 use second::prng::Prng;
 use second::ENTRY_OFFSET_INVALID;
 
-const SEED: u64 = 7;
+const SEED: u64 = 6;
 const BLOCKS: usize = 3;
 
 /// A file's name and its bytes.

@@ -8,7 +8,7 @@ use crate::stock::Stock;
 use second::generator::{generate_reference, ReferencePlan};
 use second::name_plans::{draw_rows, joined};
 use second::prng::Prng;
-use second::proposals::{random_call, spoil_call, EncodeCall, Proposal};
+use second::proposals::{random_call, spoil_call, stepping_call, EncodeCall, Proposal};
 use second::reference::{Reference, Strand, MAX_BASES};
 
 /// The length of the block that a call makes, or 0.
@@ -161,14 +161,17 @@ fn of_long(stock: &Stock, call: EncodeCall) -> Work {
 }
 
 /// Steps of 65,535 and 65,536 and back, from a first position around 65,535, over reads without a
-/// place.
+/// place. A reverse read with clips has its position 9 above its place.
 pub fn steps(rng: &mut Prng, stock: &Stock) -> Work {
     let reference = Reference::new(stock.long.bases, &stock.long_bytes).unwrap();
     let any = rng.below(stock.long.bases - 10);
     let mut at = rng.pick(&[0, 1, 65_534, 65_535, 65_535, 65_536, 65_536, any]);
     let mut proposals = Vec::new();
     for _ in 0..rng.pick(&[1, 2, 4, 9, 18]) {
-        let mut read = cut_read(rng, &reference, at, 10, (0, 0));
+        let clips = rng.pick(&[(0, 0), (0, 0), (2, 1)]);
+        let mut read = cut_read(rng, &reference, at, 10, clips);
+        let runs_down = read.strand == 2 && clips != (0, 0);
+        let position = if runs_down { at + 9 } else { at };
         if rng.once_in(4) {
             read.strand = 0;
         }
@@ -177,10 +180,19 @@ pub fn steps(rng: &mut Prng, stock: &Stock) -> Work {
         }
         proposals.push(read);
         let any = rng.below(stock.long.bases - 10);
-        let on = at + rng.pick(&[0, 1, 65_534, 65_535, 65_535, 65_536, 65_536, 70_000]);
+        let apart = [0, 1, 65_526, 65_527, 65_534, 65_535, 65_535, 65_536, 65_536, 70_000];
+        let on = position + rng.pick(&apart);
         at = if on + 10 > stock.long.bases || rng.once_in(6) { any } else { on };
     }
     let mut call = EncodeCall::new(&stock.long, &proposals, 1, 2);
+    lend(rng, &mut call);
+    of_long(stock, call)
+}
+
+/// Reads that are mostly reverse and clipped, near each other or about 65,535 bases apart.
+pub fn clipped_steps(rng: &mut Prng, stock: &Stock) -> Work {
+    let reads = rng.pick(&[2, 4, 9, 20]);
+    let mut call = stepping_call(rng, &stock.long, reads);
     lend(rng, &mut call);
     of_long(stock, call)
 }

@@ -304,7 +304,7 @@ fn buffers() {
 #[test]
 fn rare_blocks() {
     let stock = &Stock::new();
-    let rare: [SpoilJudge; 7] = [
+    let rare: [SpoilJudge; 8] = [
         // A read of more than 65,535 letters.
         |answer, _| answer[7] += (answer[4] == 1 && answer[5] > 65_535) as u64,
         // A block of 50,000 reads.
@@ -314,6 +314,13 @@ fn rare_blocks() {
             if answer[0] == 8 && input[9] >= 0x80 && input[13] >= 0x80 {
                 answer[0] = 12;
             }
+        },
+        // A first read that is reverse local and ends at base 0, but starts below it.
+        |answer, input| {
+            let dna = second::section(input, 0);
+            let turned = answer[0] == 15 && answer[2] == 0 && dna[0] < 0x80 && dna[1] < 0x80;
+            let at_0 = turned && dna[3] < 0x80 && dna[4] & 7 == 0 && dna[5..9] == [0; 4];
+            answer[0] += at_0 as u64
         },
         // Names of 255 tokens.
         |answer, input| {

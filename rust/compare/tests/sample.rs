@@ -23,7 +23,7 @@ fn the_tree_has_these_files() {
 fn the_sample_has_every_kind_on_both_strands() {
     let (reference, blocks) = (file("sample.reference"), file("sample.blocks"));
     let reference = Reference::new(90, &reference[8..]).unwrap();
-    let mut found = [false; 9];
+    let mut found = [false; 10];
     let mut rest = &blocks[..];
     while !rest.is_empty() {
         let block = read_block(&reference, rest).unwrap();
@@ -38,9 +38,12 @@ fn the_sample_has_every_kind_on_both_strands() {
                 Kind::Raw4(_) => 7,
             }] = true;
             found[8] |= !record.n_positions.is_empty();
+            // A position that is not the lowest index.
+            let moved = |(lowest, _)| record.placement().is_some_and(|at| at.position != lowest);
+            found[9] |= record.stretch().is_some_and(moved);
         }
     }
-    assert_eq!(found, [true; 9]);
+    assert_eq!(found, [true; 10]);
 }
 
 /// The listing prints no names, and reads those of each block that stores them.

@@ -26,7 +26,8 @@ pub enum Strand {
 /// ```
 #[derive(Clone, Copy, Debug, PartialEq, Eq, Hash)]
 pub struct Candidate {
-    /// The lowest reference index of the aligned letters, on either strand.
+    /// The lowest reference index of the aligned letters, on either strand, with clips and without.
+    /// Of a reverse read with clips the block stores the highest.
     pub position: u32,
     /// The strand; None where no place is proposed.
     pub strand: Option<Strand>,
@@ -50,7 +51,8 @@ impl Candidate {
         Candidate { position, strand: Some(Strand::Reverse), ..Candidate::NONE }
     }
 
-    /// The same place, without so many letters at either end of the read.
+    /// So many letters at either end of the read are not aligned. The position does not move: it is
+    /// the lowest index of those that are.
     pub fn clipped(self, left: u8, right: u8) -> Candidate {
         Candidate { left, right, ..self }
     }
@@ -168,7 +170,7 @@ pub struct Columns<'a> {
     pub names: &'a [u8],
     /// For each name the number of bytes up to its end.
     pub name_ends: &'a [u32],
-    /// The position of each candidate.
+    /// The position of each candidate, the lowest reference index of its aligned letters.
     pub positions: &'a [u32],
     /// The strand of each candidate: 1 forward, 2 reverse, any other number for no place.
     pub strands: &'a [u8],

@@ -1,6 +1,7 @@
 //! Property: at the edges of sizes every call answers as 01 says, and a refused one leaves its
 //! buffers as they were. Catches: the pointer of an empty slice taken for a fault, a length that is
-//! one off, letters written before a refusal, a block without sections that has no end.
+//! one off, letters written before a refusal, a block without sections that has no end, a stretch
+//! that starts below base 0.
 
 use ora::*;
 use second::cases_by_hand::{Hand, BASES, REFERENCE};
@@ -202,6 +203,38 @@ fn too_many_reads() {
     reads.clear();
     reads.push(b"0", b"", Candidate::NONE);
     assert_eq!(encode(&reference(), &reads, 0, 0), Err(refused(32)));
+}
+
+/// A reverse read with clips is stored by the highest index of its stretch, at the first base and
+/// at the last too. A position from which the stretch would start below 0, or that is past the last
+/// base, is refused with 15.
+#[test]
+fn reverse_clipped_reads_at_both_ends() {
+    // The aligned letters, the candidate and what is stored; on ACGTACGTTGCA.
+    let reads: [(&str, u32, u8); 6] = [
+        ("TACGT", 0, 4),
+        ("TGCAA", 7, 11),
+        ("TGCAACGTACGT", 0, 11),
+        ("AAC", 6, 8),
+        ("T", 0, 0),
+        ("T", 11, 11),
+    ];
+    for (aligned, lowest, highest) in reads {
+        let letters = format!("G{aligned}C");
+        let mut reads = Reads::new();
+        reads.push(b"0", letters.as_bytes(), Candidate::reverse(lowest).clipped(1, 1));
+        let mut block = encode(&reference(), &reads, 7, 0).unwrap();
+        assert_eq!(section(&block, Section::Dna), [0, 0, 0, 0x80, 0, highest, 0, 1, 1, 0x90]);
+        assert_eq!(decode(&reference(), &block).unwrap().letters(), letters.as_bytes());
+
+        let field = section_span(&block, Section::Dna).start + 5;
+        for position in 0..=13 {
+            block[field] = position;
+            let inside = (aligned.len() as u8 - 1..BASES as u8).contains(&position);
+            let number = decode(&reference(), &block).err().map(|refusal| refusal.number);
+            assert_eq!(number, (!inside).then_some(15), "{aligned} at {position}");
+        }
+    }
 }
 
 /// Reads whose records are as long as they can be: 255 letters clipped at both ends, 31 entries, an

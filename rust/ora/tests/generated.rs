@@ -7,7 +7,7 @@ use second::generator::{generate, generate_reference, generate_under, Shape};
 use second::header::Header;
 use second::mutators::{damage, spoil};
 use second::prng::Prng;
-use second::proposals::{random_call, spoil_call};
+use second::proposals::{random_call, spoil_call, stepping_call, EncodeCall};
 
 const SHAPE: Shape =
     Shape { bases: 150, max_reads: 20, max_length: 60, max_carried: 5, max_name: 60 };
@@ -159,6 +159,35 @@ fn files() {
     }
 }
 
+/// Both write the same, and it reads back.
+fn check_call(call: &EncodeCall) {
+    let reference = Reference::new(call.bases, &call.reference).unwrap();
+    let columns = Columns {
+        letters: &call.letters,
+        ends: &call.ends,
+        names: &call.names,
+        name_ends: &call.name_ends,
+        positions: &call.positions,
+        strands: &call.strands,
+        lefts: &call.lefts,
+        rights: &call.rights,
+    };
+    let (mut out, mut own) = (vec![0xEE; call.enough()], vec![0xEE; call.enough()]);
+    let outcome = call.run(&mut out);
+    let answer = encode_into(&reference, &columns, call.b_id, call.c_time, &mut own);
+    assert_eq!(own, out);
+    let length = match answer {
+        Ok(length) => length,
+        Err(refusal) => return assert_eq!(refusal, refusal_of(outcome)),
+    };
+    assert_eq!(length as u64, outcome.length);
+    assert!(length <= columns.room());
+    let decoded = decode(&reference, &own).unwrap();
+    assert_eq!((decoded.letters(), decoded.ends()), (&call.letters[..], &call.ends[..]));
+    let names = decoded.names().unwrap();
+    assert_eq!((names.bytes(), names.ends()), (&call.names[..], &call.name_ends[..]));
+}
+
 #[test]
 fn written_blocks() {
     let mut rng = Prng::new(3);
@@ -170,34 +199,19 @@ fn written_blocks() {
             let number = rng.pick(&[31, 32, 33, 41]);
             spoil_call(&mut call, number, 0, &mut rng);
         }
-        let reference = Reference::new(packed.bases, &packed.bytes).unwrap();
-        let columns = Columns {
-            letters: &call.letters,
-            ends: &call.ends,
-            names: &call.names,
-            name_ends: &call.name_ends,
-            positions: &call.positions,
-            strands: &call.strands,
-            lefts: &call.lefts,
-            rights: &call.rights,
-        };
-        let (mut out, mut own) = (vec![0xEE; call.enough()], vec![0xEE; call.enough()]);
-        let outcome = call.run(&mut out);
-        let answer = encode_into(&reference, &columns, call.b_id, call.c_time, &mut own);
-        assert_eq!(own, out);
-        match answer {
-            Ok(length) => {
-                assert_eq!(length as u64, outcome.length);
-                assert!(length <= columns.room());
-                let decoded = decode(&reference, &own).unwrap();
-                assert_eq!(
-                    (decoded.letters(), decoded.ends()),
-                    (&call.letters[..], &call.ends[..])
-                );
-                let names = decoded.names().unwrap();
-                assert_eq!((names.bytes(), names.ends()), (&call.names[..], &call.name_ends[..]));
-            }
-            Err(refusal) => assert_eq!(refusal, refusal_of(outcome)),
-        }
+        check_call(&call);
+    }
+}
+
+/// Most reads are reverse and clipped, and their steps around 0 and 65,535.
+#[test]
+fn written_steps() {
+    let mut rng = Prng::new(4);
+    let long = generate_reference(&mut rng, 140_000);
+    for _ in 0..1_000 {
+        check_call(&stepping_call(&mut rng, &long, 20));
+        let bases = rng.pick(&[1, 2, 12, 64]);
+        let short = generate_reference(&mut rng, bases);
+        check_call(&stepping_call(&mut rng, &short, 20));
     }
 }

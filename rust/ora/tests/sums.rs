@@ -45,6 +45,19 @@ fn rows_of_the_table() {
     assert_eq!(sum(4, &[&n_list[..11], &[0, 0]].concat()), refused(20));
 }
 
+/// The reverse local records of docs/FORMAT.md, whose stretch ends at the position.
+#[test]
+fn reverse_local_records() {
+    let local = |position| sum(5, &[0, 0, 0, 0, 0, position, 0, 0, 0, 1, 1, 0xC0]);
+    assert_eq!(local(8), gives("TAACA", 0, 0));
+    assert_eq!(local(2), gives("TCGTA", 0, 0));
+    assert_eq!(local(11), gives("TTGCA", 0, 0));
+    assert_eq!(local(1), refused(15));
+    assert_eq!(local(12), refused(15));
+    let with_lists = [0, 0, 0x80, 0, 0x10, 9, 0, 0, 0, 7, 9, 1, 2, 0xB0, 2, 0, 0, 2, 0];
+    assert_eq!(sum(7, &with_lists), gives("NCNACTA", 2, 0));
+}
+
 /// The block of 132 bytes that the listing's sample shows.
 #[test]
 fn the_listed_block() {
@@ -138,7 +151,7 @@ fn candidates() {
         assert_eq!(decode(&reference(), &block).unwrap().letters(), letters);
         section(&block, Section::Dna).to_vec()
     };
-    let local = [0, 0, 0x80, 0x80, 0, 6, 0, 1, 1, 0xC0, 1, 4, 0];
+    let local = [0, 0, 0x80, 0x80, 0, 8, 0, 1, 1, 0xC0, 1, 4, 0];
     assert_eq!(dna(b"CAAC", Candidate::reverse(6)), [0x80, 0, 0, 0x80, 6, 0]);
     assert_eq!(dna(b"CTAC", Candidate::reverse(6)), [0, 0, 0, 0x80, 0x0C, 6, 0, 7]);
     assert_eq!(dna(b"TAACN", Candidate::reverse(6).clipped(1, 1)), local);

@@ -189,9 +189,11 @@ pub unsafe fn decode(
                 left = *at as usize;
                 let right = *at.add(1) as usize;
                 let aligned = length - left - right;
+                // A reverse local stretch ends at its position.
+                let leftmost = if forward { position } else { position + 1 - aligned };
                 let packed = at.add(2);
                 put_forward(packed, 0, left, &tables.forward, to);
-                put_stretch(forward, reference, position, aligned, tables, to.add(left));
+                put_stretch(forward, reference, leftmost, aligned, tables, to.add(left));
                 put_forward(packed, left, right, &tables.forward, to.add(left + aligned));
                 at = packed.add((left + right + 3) / 4);
             }

@@ -350,6 +350,10 @@ pub unsafe fn encode(
                 *at = (count as u8) << 3 | if clipped == 0 { 4 } else { 0 };
                 at = at.add(1);
             }
+            // A reverse local stretch ends at its position.
+            let runs_down = strand == 2 && clipped > 0;
+            let above = if runs_down { read.len() - clipped - 1 } else { 0 };
+            let position = position + above as u32;
             let step = position.wrapping_sub(previous);
             if position >= previous && step <= 65535 {
                 bytes[3] |= bit;

@@ -137,7 +137,7 @@ unsafe fn entries_fit(entries: *const u8, count: usize, aligned: usize) -> bool 
 /// aligned ones.
 struct Place {
     forward: bool,
-    position: usize,
+    leftmost: usize,
     left: usize,
     aligned: usize,
 }
@@ -156,7 +156,7 @@ unsafe fn differences(
         let entry = *entries.add(k);
         at += (entry >> 2) as usize;
         let along = if place.forward { at } else { place.aligned - 1 - at };
-        let index = place.position + along;
+        let index = place.leftmost + along;
         let code = *reference.get_unchecked(index / 4) >> (6 - 2 * (index % 4)) & 3;
         let code = if place.forward { code } else { 3 - code };
         if code != entry & 3 && (ns.is_empty() || !ns.contains(&(place.left + at))) {
@@ -214,7 +214,7 @@ unsafe fn run<const DIFFERENCES: bool>(
             }
         }
         let mut place =
-            Place { forward: group.forward >= 128, position: 0, left: 0, aligned: length };
+            Place { forward: group.forward >= 128, leftmost: 0, left: 0, aligned: length };
         let mut entries = dna.at;
         if kind & 3 == 0 {
             let width = if group.step >= 128 { 2 } else { 4 };
@@ -225,6 +225,7 @@ unsafe fn run<const DIFFERENCES: bool>(
                 position = (at as *const u32).read_unaligned() as usize;
             }
             entries = at.add(width);
+            place.leftmost = position;
             if kind == 0 {
                 let clips = dna.take(2)?;
                 place.left = *clips as usize;
@@ -234,9 +235,12 @@ unsafe fn run<const DIFFERENCES: bool>(
                     return None;
                 }
                 place.aligned = length - clipped;
+                // A reverse local stretch ends at its position.
+                if !place.forward {
+                    place.leftmost = (position + 1).checked_sub(place.aligned)?;
+                }
             }
-            place.position = position;
-            let inside = (position + place.aligned) as u64 <= bases;
+            let inside = (place.leftmost + place.aligned) as u64 <= bases;
             if !inside || !entries_fit(entries, count, place.aligned) {
                 return None;
             }

@@ -6,6 +6,7 @@ use crate::stock::Stock;
 use second::cases_by_hand::Hand;
 use second::generator::generate_reference;
 use second::prng::Prng;
+use second::records::Bits;
 
 /// Reads of one length whose group bytes, flag bytes and fields are drawn without regard to each
 /// other, most of them small. The N section is that of the groups.
@@ -26,8 +27,9 @@ pub fn wild_records(rng: &mut Prng, _: &Stock) -> Work {
         hand.n.push(group[2]);
         hand.dna.extend(group);
         for index in 0..in_group {
-            let bit = |byte: usize| group[byte] & (0x80 >> index) != 0;
-            wild_record(rng, &mut hand.dna, length as u64, bit(0), bit(2), bit(3));
+            let [perfect, forward, with_n, pos_t] = group.map(|byte| byte & (0x80 >> index) != 0);
+            let bits = Bits { perfect, forward, with_n, pos_t };
+            wild_record(rng, &mut hand.dna, length as u64, bits);
         }
     }
     if rng.once_in(8) {
@@ -36,23 +38,20 @@ pub fn wild_records(rng: &mut Prng, _: &Stock) -> Work {
     reading(rng, bases, bytes(reference.bytes), hand.bytes())
 }
 
-fn wild_record(
-    rng: &mut Prng,
-    dna: &mut Vec<u8>,
-    length: u64,
-    perfect: bool,
-    with_n: bool,
-    pos_t: bool,
-) {
+fn wild_record(rng: &mut Prng, dna: &mut Vec<u8>, length: u64, bits: Bits) {
     let count = rng.pick(&[0, 0, 1, 1, 2, 3, 30, 31]);
     let flag = rng.pick(&[0b100, 0b000, 0b010, 0b001, 0b010, 0b001]);
+    let width = if bits.pos_t { 2 } else { 4 };
     let mut raw4 = false;
-    if perfect {
-        small_number(rng, dna, if pos_t { 2 } else { 4 });
+    if bits.perfect {
+        small_number(rng, dna, 0, width);
     } else if flag == 0b100 || flag == 0 {
         let count = if flag == 0 { count } else { count.max(1) };
         dna.push(count << 3 | flag);
-        small_number(rng, dna, if pos_t { 2 } else { 4 });
+        // A reverse local stretch runs down from its position.
+        let runs_down = flag == 0 && !bits.forward;
+        let least = if runs_down && rng.coin() { length } else { 0 };
+        small_number(rng, dna, least, width);
         dna.extend((0..count).map(|_| (rng.below(4) << 2 | rng.below(4)) as u8));
         if flag == 0 {
             let clips = [rng.below(3), rng.below(3)];
@@ -64,23 +63,23 @@ fn wild_record(
         dna.push(flag | if rng.once_in(20) { count << 3 } else { 0 });
         packed(rng, dna, length, if raw4 { 4 } else { 2 });
     }
-    if with_n && !raw4 {
+    if bits.with_n && !raw4 {
         let count = rng.pick(&[1, 1, 2, 3, 30, 31, 32]);
         dna.push(count);
         for _ in 0..count {
-            small_number(rng, dna, 2);
+            small_number(rng, dna, 0, 2);
         }
     }
 }
 
-/// A number below 8 in so many bytes, and seldom any.
-fn small_number(rng: &mut Prng, dna: &mut Vec<u8>, width: usize) {
+/// A number less than 8 above the least in so many bytes, and seldom any.
+fn small_number(rng: &mut Prng, dna: &mut Vec<u8>, least: u64, width: usize) {
     if rng.once_in(30) {
         let any = rng.bytes(width);
         dna.extend(any);
     } else {
-        dna.push(rng.below(8) as u8);
-        dna.resize(dna.len() + width - 1, 0);
+        let number = least + rng.below(8);
+        dna.extend(&number.to_le_bytes()[..width]);
     }
 }
 
@@ -102,12 +101,16 @@ pub fn full_lists(rng: &mut Prng, _: &Stock) -> Work {
     let length = rng.range(70, 200);
     let clips = rng.pick(&[(0, 0), (0, 0), (1, 2), (3, 0)]);
     let span = length - clips.0 - clips.1;
-    let with_n = rng.coin();
+    let (forward, with_n) = (rng.coin(), rng.coin());
     let bit = |set: bool| (set as u8) << 7;
-    let mut dna = vec![0, bit(rng.coin()), bit(with_n), 0];
+    let mut dna = vec![0, bit(forward), bit(with_n), 0];
     let entries = full_list(rng, span);
     let global = if clips == (0, 0) { 0b100 } else { 0 };
-    dna.extend([(entries.len() as u8) << 3 | global, rng.below(90) as u8, 0, 0, 0]);
+    dna.push((entries.len() as u8) << 3 | global);
+    let lowest = rng.below(90);
+    let runs_down = global == 0 && !forward;
+    let position = if runs_down { lowest + span - 1 } else { lowest };
+    dna.extend((position as u32).to_le_bytes());
     dna.extend(entries.iter().map(|&offset| (offset.min(63) << 2 | rng.below(4)) as u8));
     if global == 0 {
         dna.extend([clips.0 as u8, clips.1 as u8, 0xE4 & 0xFF << (8 - 2 * (clips.0 + clips.1))]);

@@ -8,8 +8,8 @@ use second::letters::packed_bytes;
 use second::prng::Prng;
 use second::reference::MAX_BASES;
 
-/// Perfect and raw reads of one length at these positions, where 2 bytes are taken for some of the
-/// steps that they can hold; a raw read has no position.
+/// Perfect, reverse local and raw reads of one length at these positions, where 2 bytes are taken
+/// for some of the steps that they can hold; a raw read has no position.
 fn placed_block(rng: &mut Prng, length: u64, positions: &[Option<u64>]) -> Vec<u8> {
     let mut dna = Vec::new();
     let mut previous = 0;
@@ -22,8 +22,13 @@ fn placed_block(rng: &mut Prng, length: u64, positions: &[Option<u64>]) -> Vec<u
                 records.extend(vec![0; packed_bytes(length, 2) as usize]);
                 continue;
             };
-            group[0] |= bit;
-            group[1] |= rng.pick(&[0, bit]);
+            let is_local = length > 1 && rng.once_in(3);
+            if is_local {
+                records.push(0);
+            } else {
+                group[0] |= bit;
+                group[1] |= rng.pick(&[0, bit]);
+            }
             let step = position.checked_sub(previous).and_then(|step| u16::try_from(step).ok());
             match step {
                 Some(step) if !rng.once_in(3) || position > u32::MAX as u64 => {
@@ -32,12 +37,25 @@ fn placed_block(rng: &mut Prng, length: u64, positions: &[Option<u64>]) -> Vec<u
                 }
                 _ => records.extend((position as u32).to_le_bytes()),
             }
+            if is_local {
+                records.extend(clips(rng, length, position));
+            }
             previous = position;
         }
         dna.extend(group);
         dna.extend(records);
     }
     Hand::same(length as i32, positions.len() as i32, &dna).bytes()
+}
+
+/// The clips of a reverse local read with their letters, all A. Its stretch runs down from the
+/// position, and mostly not below 0.
+fn clips(rng: &mut Prng, length: u64, position: u64) -> Vec<u8> {
+    let inside = if rng.once_in(10) { length } else { position + 1 };
+    let clipped = length - rng.range(1, inside.min(length - 1));
+    let left = rng.range(0, clipped);
+    let letters = vec![0; packed_bytes(clipped, 2) as usize];
+    [&[left as u8, (clipped - left) as u8], &letters[..]].concat()
 }
 
 /// Steps of 0, 65,535, 65,536 and back, from a first position around 65,535, over raw reads and
@@ -58,7 +76,7 @@ pub fn steps_on_the_largest(rng: &mut Prng, stock: &Stock) -> Work {
     let last = MAX_BASES - length;
     let near = last - rng.below(4);
     let middle = (1 << 31) - rng.below(8);
-    let first = rng.pick(&[near, last, last - 65_535, last - 65_536, middle, 0]);
+    let first = rng.pick(&[near, last, MAX_BASES - 1, last - 65_535, last - 65_536, middle, 0]);
     let furthest = rng.pick(&[last, last + 70_000]);
     let positions = stepped(rng, first, furthest);
     let input = placed_block(rng, length, &positions);
