@@ -9,12 +9,13 @@ use lib.Dec.{leb, eqb}
 use borrow.Author.Tests.{eq-eqb, ne-eqb, lt-ltb, le-ltb, le-leb, lt-leb}
 use Rattle.base.proofs.ListLaws.{by-order, by-test}
 use Rattle.base.proofs.Tests.{both-and}
-use Rattle.dna.specs.Reference.{maxReferenceBases, referenceSizeWrong}
+use Rattle.dna.specs.Reference.{maxReferenceBases, referenceSizeWrong, ReferenceFits}
 use Rattle.dna.specs.Record.{maxEntries, maxNPositions, Entry}
 use Rattle.dna.specs.RecordAt.{entriesAt}
 use Rattle.dna.specs.declared.Placement.{Placement}
 use Rattle.dna.specs.declared.Record.{Record}
 use Rattle.dna.specs.declared.Record.the-variants as kinds
+use Rattle.dna.proofs.ReferenceLaws.{reference-length}
 use Rattle.format.specs.RuleRecord.{Candidate, nOffsetsOf, alignedCount, candidateEntries}
 use Rattle.format.specs.RuleRecord.{placeUsed, storedPosition, Choice, chooseRaw4, chooseAligned}
 use Rattle.format.specs.RuleRecord.{chooseRaw, choiceFor, isPerfect, writtenAs, written}
@@ -28,7 +29,7 @@ use Rattle.record_writer.specs.Writable.{listStored, PlacementFits, KindFits}
 use Rattle.record_writer.specs.Chosen.{placementOf, alignedRecord, chosenRecord}
 use Rattle.record_writer.proofs.ChosenLaws.{chosen-as}
 use Rattle.choices.specs.Choice.{placeFits, ChosenByRule}
-use Rattle.choices.proofs.PlaceLaws.{fits-inside, used-fits, stretch-fits, entries-back}
+use Rattle.choices.proofs.PlaceLaws.{fits-inside, used-fits, entries-back}
 
 -- ---- The record at a place
 
@@ -240,10 +241,10 @@ module _ (bases : ℕ) (reference letters : List ℕ) (from to : ℕ) (candidate
       let all : n ≡ length entries =
       omega (arith, few-entries (0 + length entries) n (put .counted) fit) in
       let inside = fits-inside bases (to - from) candidate fits made yes′ in
-      let small = stretch-fits bases reference (candidate .position) _ right (inside .1) .small in
+      let sized : ReferenceFits bases reference = record { fits = right } in
       let stored =
       stored-inside maxReferenceBases codes candidate (omega (arith, size, inside .0))
-      (omega (arith, size, small)) in
+      (omega (arith, size, inside .1, reference-length sized .0)) in
       aligned-chosen few
       (used-fits bases reference codes candidate (to - from) size
       ∙ both-and _ _ (sym made ∙ yes′) (le-leb (length entries) maxEntries (omega arith)))

@@ -1,25 +1,23 @@
 -- A candidate's place: when a read fits it, and the entries there. Assumes nothing.
 use mathlib.Core.Path.{_≡_, refl, sym, ap, ap₂, _∙_, subst}
-use Prim.Native.Nat.{ℕ, _+_, _-_, _/_, _≤_, _<_}
+use Prim.Native.Nat.{ℕ, _+_, _-_, _≤_, _<_}
 use native.Mathlib.Omega.{arith}
 use mathlib.Core.Bool.{Bool, true, false, not, _&&_, _||_}
 use mathlib.Core.List.{List, [], _∷_, map}
 use lib.ListN.{length, getD, take, length-map}
 use lib.Dec.{leb, ltb, eqb}
-use borrow.Author.Tests.{eqb-true, eqb-false, lt-ltb, le-ltb, ltb-true, ltb-false, leb-true}
+use borrow.Author.Tests.{eqb-false, lt-ltb, le-ltb, ltb-true, leb-true}
 use Rattle.base.specs.Lists.{keep, placesWhere, All}
 use Rattle.base.specs.Paste.{pasted}
 use Rattle.base.proofs.ListLaws.{by-test, below-at}
 use Rattle.base.proofs.PasteLaws.{length-pasted, take-pasted}
-use Rattle.base.proofs.Tests.{and-both, or-neither, not-true, not-false}
-use Rattle.dna.specs.Reference.{maxReferenceBases, referenceSizeWrong}
+use Rattle.base.proofs.Tests.{and-both, not-true}
 use Rattle.dna.specs.Record.{maxEntries, Entry, EntryFits, entryByte}
 use Rattle.dna.specs.RecordAt.{entriesAt}
 use Rattle.format.specs.RuleEntries.{differsAt, gapsOf}
 use Rattle.format.specs.RuleRecord.{Candidate, alignedCount, candidateEntries, placeUsed}
 use Rattle.format.proofs.WrittenEntries.{entries-fit}
 use Rattle.format.proofs.WritesBlocks.Inputs.{code-back}
-use Rattle.reference.specs.Stretch.{StretchFits}
 use Rattle.letter_packing.specs.Read.{ReadLies, codesIn}
 use Rattle.mismatches.specs.Entries.{stretchBase, alignedCodes, stretchEntries, EntriesPut}
 use Rattle.mismatches.specs.Entries.{AlignedFits}
@@ -83,17 +81,6 @@ used-fits bases reference codes candidate size is =
     is
     ∙ and-last (eqb (candidate .strand) 1 || eqb (candidate .strand) 2) (ltb clipped size)
     (leb (candidate .position + (size - clipped)) bases) few
-
--- A stretch inside the reference.
-pub stretch-fits : (bases : ℕ) (reference : List ℕ) (leftmost count : ℕ)
-    → referenceSizeWrong bases reference ≡ false → leftmost + count ≤ bases
-    → StretchFits reference leftmost count
-unfolding referenceSizeWrong
-stretch-fits bases reference leftmost count right inside =
-    let both = or-neither (ltb maxReferenceBases bases) _ right in
-    let small = ltb-false maxReferenceBases bases (both .0) in
-    let bytes = eqb-true (length reference) ((bases + 3) / 4) (not-false _ (both .1)) in
-    record { inside = omega arith; small = omega arith }
 
 -- ---- The entries there
 

@@ -1,18 +1,15 @@
 -- A record that is decoded lies in the section as its letters and counts need it. Assumes nothing.
 use mathlib.Core.Path.{_≡_, refl, ap, subst}
-use Prim.Native.Nat.{ℕ, _+_, _-_, _/_, _≤_}
+use Prim.Native.Nat.{ℕ, _+_, _-_, _≤_}
 use native.Mathlib.Nat.{zero-add}
 use native.Mathlib.Omega.{arith}
 use mathlib.Core.Bool.{Bool, true, false, cond, not}
 use mathlib.Core.List.{List, map}
 use lib.ListN.{length}
-use lib.Dec.{ltb}
-use borrow.Author.Tests.{ltb-false, eqb-true}
 use Rattle.base.specs.Lists.{AllBytes}
 use Rattle.base.specs.Answer.{found}
-use Rattle.base.proofs.Tests.{or-neither, not-false}
 use Rattle.dna.specs.Sizes.{maxReadLength}
-use Rattle.dna.specs.Reference.{referenceSizeWrong, ReferenceFits}
+use Rattle.dna.specs.Reference.{ReferenceFits}
 use Rattle.dna.specs.Record.{ReadContext}
 use Rattle.dna.specs.Record.{StoredRecord, hasNList, NListFits}
 use Rattle.dna.specs.Alignment.{isAligned, fieldOf, entriesOf, leftOf, rightOf, alignedLength}
@@ -25,7 +22,7 @@ use Rattle.dna.specs.declared.Record.the-variants as kinds
 use Rattle.dna.proofs.OffsetLaws.{steps-tests}
 use Rattle.dna.proofs.RecordSound.{RecordFoundAt, record-found}
 use Rattle.dna.proofs.RulesMean.{rules-mean}
-use Rattle.reference.specs.Stretch.{StretchFits}
+use Rattle.reference.proofs.Fits.{stretch-fits}
 use Rattle.records.specs.declared.Layout.{Layout}
 use Rattle.records.specs.Decoded.{recordOf, layoutOf}
 use Rattle.record_letters.specs.Laid.{isForward, fieldsIn, forwardIn, isFound, localLeftmost}
@@ -33,17 +30,6 @@ use Rattle.record_letters.specs.Laid.{packedIn, PlacedIn, Laid}
 use Rattle.record_letters.specs.Printed.{Printable}
 use Rattle.record_letters.proofs.Ranges.{packedSize, LaidInRange}
 use Rattle.record_letters.proofs.LaidLaws.{laid-in-range}
-
--- A stretch inside the reference lies on its bytes.
-stretch-fits : (bases : ℕ) (reference : List ℕ) (from count : ℕ) → ReferenceFits bases reference
-    → from + count ≤ bases → StretchFits reference from count
-unfolding referenceSizeWrong
-stretch-fits bases reference from count fits h =
-    let both = or-neither (ltb 4_294_967_295 bases) _ (fits .fits) in
-    let few : bases ≤ 4_294_967_295 = ltb-false 4_294_967_295 bases (both .0) in
-    let bytes : length reference ≡ (bases + 3) / 4 =
-    eqb-true (length reference) ((bases + 3) / 4) (not-false _ (both .1)) in
-    record { inside = omega arith; small = omega arith }
 
 -- The lowest index of a local record, as the definition computes it.
 local-same : (placement : Placement) (aligned : ℕ)
@@ -62,12 +48,12 @@ placed-in : (section reference : List ℕ) (bases readLength : ℕ) (record′ :
 unfolding fieldsIn isAligned entriesOf leftOf rightOf fieldOf alignedLength position isLocal
     runsDown leftmost forwardIn
 placed-in section reference bases readLength (kinds.Perfect placement) layout range fits =
-    stretch-fits bases reference (placement .position) readLength fits
+    stretch-fits (placement .position) readLength fits
     (omega (arith, range .span refl))
 placed-in section reference bases readLength (kinds.Global placement) layout range fits =
     record {
       stretch =
-          stretch-fits bases reference (placement .position) readLength fits
+          stretch-fits (placement .position) readLength fits
           (omega (arith, range .span refl));
       places =
           let whole : readLength - 0 ≡ readLength = omega arith in
@@ -82,7 +68,7 @@ placed-in section reference bases readLength (kinds.Local placement) layout rang
       λ reverse. omega (arith, range .exact (ap not reverse)),
       record {
         stretch =
-            stretch-fits bases reference (localLeftmost placement aligned) aligned fits
+            stretch-fits (localLeftmost placement aligned) aligned fits
             (omega (arith, range .span refl, local-same placement aligned));
         places = steps-tests aligned _ (range .steps) .1;
       },

@@ -4,10 +4,11 @@ use native.Mathlib.Omega.{arith}
 use borrow.Author.Needs.{needs}
 use borrow.Author.Tests.{not-true, not-false}
 use Rattle.format.specs.RuleRecord.{Candidate}
+use Rattle.reference.proofs.Fits.{stretch-fits}
 use Rattle.letter_packing.specs.Read.{codesIn}
 use Rattle.letter_packing.proofs.ReadLaws.{length-codesIn}
 use Rattle.choices.specs.Choice.{candidateOf}
-use Rattle.choices.proofs.PlaceLaws.{fits-inside, stretch-fits}
+use Rattle.choices.proofs.PlaceLaws.{fits-inside}
 use Rattle.choices.proofs.ChoiceLaws.{raw4-chosen, unfit-chosen, over-chosen, used-chosen}
 use Rattle.choices.proofs.choose.Statement.{statement}
 use Rattle.choices.proofs.choose.Tie as tie
@@ -53,8 +54,8 @@ put-place-requires c κs =
     (p2 .place-fits .ensures) (not-false _ (c .before .if2 .left)) in (
       start .pre .1,
       inside .0,
-      stretch-fits (a .bases) (a .reference .now) (a .position)
-          (a .to - a .from - (a .left + a .right)) (start .pre .0) (inside .1),
+      stretch-fits (a .position) (a .to - a .from - (a .left + a .right))
+          (record { fits = start .pre .0 }) (inside .1),
       start .pre .2,
       start .pre .3,
       start .pre .4,
