@@ -3,7 +3,7 @@ use mathlib.Core.Path.{_≡_, refl, sym, ap, ap₂, _∙_, subst}
 use Prim.Native.Nat.{ℕ, zero, suc, _+_, _-_, _≤_, _<_}
 use native.Mathlib.Omega.{arith}
 use native.Mathlib.Nat.{zero-add}
-use mathlib.Core.Bool.{Bool, false, cond, _||_}
+use mathlib.Core.Bool.{Bool, true, false, cond, _||_}
 use mathlib.Core.List.{List, [], _∷_}
 use lib.ListN.{length}
 use lib.Dec.{eqb}
@@ -11,7 +11,7 @@ use borrow.Author.Tests.{eq-eqb, ne-eqb}
 use Rattle.base.specs.Lists.{build, any, member, keep, placesWhere, placesFrom, stepsFrom}
 use Rattle.base.specs.Lists.{All}
 use Rattle.base.proofs.ListLaws.{by-order, by-test, build-cong}
-use Rattle.base.proofs.Tests.{absurd-test, or-neither, neither-or}
+use Rattle.base.proofs.Tests.{absurd-test, or-neither, neither-or, or-right}
 
 -- The n numbers from s on.
 unfoldable pub countUp : (s n : ℕ) → List ℕ
@@ -93,6 +93,25 @@ pub places-none : (test : ℕ → Bool) (n : ℕ) → ((k : ℕ) → k < n → t
 places-none test n none =
     no-places n (placesWhere test n) (places-rise test n) (λ x h. member-places test n x h ∙ none x h)
 
+one-place : (low n x : ℕ) (places : List ℕ) → Rise low n places → member x places ≡ true
+    → ((k : ℕ) → k < n → member k places ≡ true → k ≡ x) → places ≡ x ∷ []
+unfolding member any
+one-place low n x [] r is alone = absurd-test (sym is)
+one-place low n x (y ∷ []) r is alone =
+    ap (λ (z : ℕ). z ∷ []) (alone y (r .1) (ap (λ (b : Bool). b || false) (eq-eqb y y refl)))
+one-place low n x (y ∷ (z ∷ places)) r is alone =
+    let first : y ≡ x = alone y (r .1) (ap (λ (b : Bool). b || member y (z ∷ places)) (eq-eqb y y refl)) in
+    let second : z ≡ x =
+    alone z (r .2 .1) (or-right (eqb y z) _ (ap (λ (b : Bool). b || member z places) (eq-eqb z z refl))) in
+    absurd (omega (arith, r .2 .0))
+
+-- A test that holds at one place has that one.
+pub places-one : (test : ℕ → Bool) (n x : ℕ) → x < n → test x ≡ true → ((k : ℕ) → k < n → test k ≡ true → k ≡ x)
+    → placesWhere test n ≡ x ∷ []
+places-one test n x h is alone =
+    one-place 0 n x (placesWhere test n) (places-rise test n) (member-places test n x h ∙ is)
+    (λ k l t. alone k l (sym (member-places test n k l) ∙ t))
+
 -- Steps lead back to the places that they were taken from.
 pub places-steps : (start low bound : ℕ) (places : List ℕ) → start ≤ low → Rise low bound places
     → placesFrom start (stepsFrom start places) ≡ places
@@ -116,6 +135,13 @@ places-any test [] e = refl
 places-any test (x ∷ xs) e =
     let parts = or-neither (test x) _ e in
     rw (parts .0) (places-any test xs (parts .1))
+
+-- What follows from the test holds of all that it keeps.
+pub all-keep : (P : ℕ → Type 0) (test : ℕ → Bool) (list : List ℕ) → ((x : ℕ) → test x ≡ true → P x) → All P (keep test list)
+unfolding keep
+all-keep P test [] h = tt
+all-keep P test (x ∷ xs) h =
+    by-test (test x) (λ t. rw t (h x t, all-keep P test xs h)) (λ t. rw t (all-keep P test xs h))
 
 -- Two tests that agree on every element keep the same.
 pub keep-same : (test other : ℕ → Bool) (list : List ℕ) → All (λ k. test k ≡ other k) list

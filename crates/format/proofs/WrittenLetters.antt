@@ -46,6 +46,13 @@ without-kept code e = cond-no 0 e refl
 
 -- ---- What a record at a candidate's place has
 
+-- As many letters as a candidate aligns are there.
+pub length-aligned : (codes : List ℕ) (candidate : Candidate) → candidate .left + candidate .right ≤ length codes
+    → length (part codes (candidate .left) (alignedCount codes candidate)) ≡ alignedCount codes candidate
+unfolding alignedCount
+length-aligned codes candidate clips =
+    length-take-le (alignedCount codes candidate) (drop (candidate .left) codes) (omega (arith, length-drop (candidate .left) codes))
+
 pub record AtPlace (reference : List ℕ) (previous : ℕ) (codes : List ℕ) (candidate : Candidate) (fields : RecordFields) : Type 0 where
   pub aligned : isAligned fields ≡ true
   pub entries : entriesOf fields ≡ candidateEntries reference codes candidate
@@ -165,22 +172,21 @@ module _ (bases : ℕ) (reference : List ℕ) (previous : ℕ) (codes : List ℕ
   span-is inside =
       leftmost-span context fields (omega (arith, leftmost-is, aligned-is, before .referenceBases)) low-enough
 
-  expected-is : (k : ℕ) → strandBase reference (context .forward) (referenceIndex context fields k) ≡ expectedAt reference codes candidate k
+  pub expected-is : (k : ℕ) → strandBase reference (context .forward) (referenceIndex context fields k) ≡ expectedAt reference codes candidate k
   unfolding expectedAt referenceIndex
   expected-is k =
       ap (λ (f : Bool). strandBase reference f (stretchIndex f (leftmost context fields) (alignedLength context fields) k)) (before .forward)
       ∙ ap₂ (λ (p n : ℕ). strandBase reference (eqb (candidate .strand) 1) (stretchIndex (eqb (candidate .strand) 1) p n k)) leftmost-is aligned-is
 
   -- The read's codes over the aligned part.
-  alignedCodes : List ℕ
+  unfoldable pub alignedCodes : List ℕ
   alignedCodes = part codes (candidate .left) (alignedCount codes candidate)
 
   length-alignedCodes : length alignedCodes ≡ alignedCount codes candidate
-  unfolding alignedCodes alignedCount
-  length-alignedCodes =
-      length-take-le (alignedCount codes candidate) (drop (candidate .left) codes) (omega (arith, length-drop (candidate .left) codes))
+  unfolding alignedCodes
+  length-alignedCodes = length-aligned codes candidate (omega arith)
 
-  getD-alignedCodes : (k : ℕ) → k < alignedCount codes candidate → getD alignedCodes k 0 ≡ getD codes (candidate .left + k) 0
+  pub getD-alignedCodes : (k : ℕ) → k < alignedCount codes candidate → getD alignedCodes k 0 ≡ getD codes (candidate .left + k) 0
   unfolding alignedCodes
   getD-alignedCodes k h =
       getD-take (alignedCount codes candidate) (drop (candidate .left) codes) k 0 h ∙ getD-drop (candidate .left) codes k 0

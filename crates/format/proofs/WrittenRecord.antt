@@ -19,6 +19,7 @@ use Rattle.base.proofs.BitLaws.{any-build, build-any}
 use Rattle.base.proofs.Tests.{any-none}
 use Rattle.base.proofs.PackedLaws.{packedLength-holds}
 use Rattle.base.proofs.PlacesWhereLaws.{Rise, rise-weaken, places-rise, any-places, places-any}
+use Rattle.base.proofs.PlacesWhereLaws.{all-keep}
 use Rattle.base.proofs.StepsLaws.{length-stepsFrom}
 use Rattle.base.proofs.Tests.{absurd-test, and-both, neither-or, not-true}
 use Rattle.dna.specs.Reference.{letterOfCode}
@@ -39,7 +40,7 @@ use Rattle.format.specs.RuleRecord.{chooseRaw, choiceFor, Written, writt
 use Rattle.format.proofs.WrittenEntries.{steps-entries, entries-fit}
 use Rattle.format.proofs.WrittenLetters.{AtPlace, at-place, Before, aligned-is, span-is}
 use Rattle.format.proofs.WrittenLetters.{fields-letter, letters-by-code, with-n-list}
-use Rattle.format.proofs.WrittenLetters.{without-kept}
+use Rattle.format.proofs.WrittenLetters.{length-aligned, without-kept}
 
 -- ---- The N list
 
@@ -242,12 +243,6 @@ pub record CandidateFits (candidate : Candidate) : Type 0 where
   pub left : candidate .left < 256
   pub right : candidate .right < 256
 
-all-keep : (P : ℕ → Type 0) (test : ℕ → Bool) (list : List ℕ) → ((x : ℕ) → test x ≡ true → P x) → All P (keep test list)
-unfolding keep
-all-keep P test [] h = tt
-all-keep P test (x ∷ xs) h =
-    by-test (test x) (λ t. rw t (h x t, all-keep P test xs h)) (λ t. rw t (all-keep P test xs h))
-
 below-part : {bound : ℕ} (list : List ℕ) (from count : ℕ) → 0 < bound → Below bound list → (k : ℕ) → getD (part list from count) k 0 < bound
 below-part {bound} list from count some below k =
     by-order k count
@@ -280,13 +275,12 @@ module _ (bases : ℕ) (reference : List ℕ) (previous : ℕ) (codes : List ℕ
       )))
 
   candidate-steps : Steps (alignedCount codes candidate) 0 0 (map (λ entry. entry .offset) (candidateEntries reference codes candidate))
-  unfolding candidateEntries candidateGaps gapsOf alignedCount
+  unfolding candidateEntries candidateGaps gapsOf
   candidate-steps =
       let m : ℕ = alignedCount codes candidate in
       let al : List ℕ = part codes (candidate .left) m in
       let expected : ℕ → ℕ = expectedAt reference codes candidate in
-      let size : length al ≡ m =
-      length-take-le m (drop (candidate .left) codes) (omega (arith, length-drop (candidate .left) codes, u .clips)) in
+      let size : length al ≡ m = length-aligned codes candidate (omega (arith, u .clips)) in
       subst (λ (n : ℕ). Steps n 0 0 (map (λ entry. entry .offset) (candidateEntries reference codes candidate))) size
       (steps-entries (length al) 0 expected al 0 (placesWhere (differsAt expected al) (length al)) (omega arith)
       (places-rise (differsAt expected al) (length al)))
