@@ -104,7 +104,15 @@ unfolding computed naming keep placesWhere stepsFrom total flatten nOffsetsOf fi
 writing = tt
 
 -- The fixed rule writes 31 entries, puts 32 into a raw record, fills on the strand of the read, stores a reverse read with
--- ends where its stretch ends, and makes this block of seven reads.
+-- ends where its stretch ends, makes this block of seven reads, and gives each gap its fillers.
 pub rule-right : RuleRight
 unfolding writing
-rule-right = record { entries = refl; reverse-clipped = refl; block = refl; step-65535 = refl; step-65536 = refl }
+rule-right =
+    record {
+      entries = refl;
+      reverse-clipped = refl;
+      block = refl;
+      fillers = refl;
+      step-65535 = refl;
+      step-65536 = refl;
+    }

@@ -39,11 +39,20 @@ lookup-places place (entry ∷ entries) k other =
 
 -- ---- Fillers
 
+-- What the fillers of a gap leave to its difference: at most 63 letters, and at least 1 where the gap has one.
+pub record Leaves (gap count : ℕ) : Type 0 where
+  pub most : gap ≤ 63 * count + 63
+  pub least : 63 * count ≤ gap - 1
+
+pub filler-leaves : (gap : ℕ) → Leaves gap (fillerCount gap)
+unfolding fillerCount
+filler-leaves gap = record { most = omega arith; least = omega arith }
+
 filler : (expected : ℕ → ℕ) (place j : ℕ) → Entry
 filler expected place j = record { offset = 63; code = expected (place + 63 * suc j) }
 
 -- So many fillers from a place on, and then other entries.
-unfoldable fillers : (n : ℕ) (expected : ℕ → ℕ) (place : ℕ) (rest : List Entry) → List Entry
+unfoldable pub fillers : (n : ℕ) (expected : ℕ → ℕ) (place : ℕ) (rest : List Entry) → List Entry
 fillers zero expected place rest = rest
 fillers (suc n) expected place rest =
     record { offset = 63; code = expected (place + 63) } ∷ fillers n expected (place + 63) rest
@@ -130,7 +139,7 @@ ap₂-steps bound from place at e f expected gaps s =
     subst (λ (p : ℕ). Steps bound 1 p (map (λ entry. entry .offset) (entriesOfGaps expected from gaps))) (sym f)
     (subst (λ (p : ℕ). Steps bound 1 place (map (λ entry. entry .offset) (entriesOfGaps expected p gaps))) (sym e) s)
 
-gap-fillers : (expected : ℕ → ℕ) (place : ℕ) (gap : Gap) (rest : List Entry)
+pub gap-fillers : (expected : ℕ → ℕ) (place : ℕ) (gap : Gap) (rest : List Entry)
     → gapEntries expected place gap ++ rest
     ≡ fillers (fillerCount (gap .gap)) expected place
     (record { offset = gap .gap - 63 * fillerCount (gap .gap); code = gap .code } ∷ rest)
@@ -144,11 +153,12 @@ gap-fillers expected place gap rest =
 pub steps-entries : (bound least : ℕ) (expected : ℕ → ℕ) (codes : List ℕ) (previous : ℕ) (places : List ℕ) → least ≤ 1
     → Rise (previous + least) bound places
     → Steps bound least previous (map (λ entry. entry .offset) (entriesOfGaps expected previous (gapsTo codes previous places)))
-unfolding entriesOfGaps gapsTo fillerCount
+unfolding entriesOfGaps gapsTo
 steps-entries bound least expected codes previous [] small r = tt
 steps-entries bound least expected codes previous (place ∷ places) small r =
     let gap : ℕ = place - previous in
-    let n : ℕ = (gap - 1) / 63 in
+    let n : ℕ = fillerCount gap in
+    let leaves : Leaves gap n = filler-leaves gap in
     let back : previous + gap ≡ place = omega (arith, r .0) in
     let rest : List Entry = entriesOfGaps expected (previous + gap) (gapsTo codes place places) in
     let later : Steps bound 1 place (map (λ entry. entry .offset) (entriesOfGaps expected place (gapsTo codes place places))) =
@@ -171,14 +181,16 @@ steps-entries bound least expected codes previous (place ∷ places) small r =
 -- An entry's code has two bits where every code does.
 pub entries-fit : (expected : ℕ → ℕ) (codes : List ℕ) (from previous : ℕ) (places : List ℕ) → ((k : ℕ) → expected k < 4)
     → All (λ place. getD codes place 0 < 4) places → All EntryFits (entriesOfGaps expected from (gapsTo codes previous places))
-unfolding entriesOfGaps gapsTo gapEntries fillerCount
+unfolding entriesOfGaps gapsTo gapEntries
 entries-fit expected codes from previous [] small h = tt
 entries-fit expected codes from previous (place ∷ places) small h =
     let gap : ℕ = place - previous in
+    let n : ℕ = fillerCount gap in
+    let leaves : Leaves gap n = filler-leaves gap in
     all-append EntryFits (gapEntries expected from (record { gap = gap; code = getD codes place 0 })) _
-    (all-append EntryFits (build ((gap - 1) / 63) (λ j. record { offset = 63; code = expected (from + 63 * suc j) })) _
-    (all-build EntryFits ((gap - 1) / 63) _ (λ j l. record { offset = omega arith; code = small (from + 63 * suc j) }))
-    (record { offset = omega arith; code = h .0 }, tt))
+    (all-append EntryFits (build n (λ j. record { offset = 63; code = expected (from + 63 * suc j) })) _
+    (all-build EntryFits n _ (λ j l. record { offset = omega arith; code = small (from + 63 * suc j) }))
+    (record { offset = omega (arith, leaves .most); code = h .0 }, tt))
     (entries-fit expected codes (from + gap) place places small (h .1))
 
 -- Letter k is the read's where it differs, and the reference's elsewhere.
@@ -186,11 +198,12 @@ pub lookup-entries : (bound least : ℕ) (expected : ℕ → ℕ) (codes : List 
     → Rise (previous + least) bound places
     → lookup previous (entriesOfGaps expected previous (gapsTo codes previous places)) k (expected k)
     ≡ cond (member k places) (getD codes k 0) (expected k)
-unfolding entriesOfGaps gapsTo fillerCount member any
+unfolding entriesOfGaps gapsTo member any
 lookup-entries bound least expected codes previous [] k small r = lookup-none previous k (expected k)
 lookup-entries bound least expected codes previous (place ∷ places) k small r =
     let gap : ℕ = place - previous in
-    let n : ℕ = (gap - 1) / 63 in
+    let n : ℕ = fillerCount gap in
+    let leaves : Leaves gap n = filler-leaves gap in
     let back : previous + gap ≡ place = omega (arith, r .0) in
     let rest : List Entry = entriesOfGaps expected (previous + gap) (gapsTo codes place places) in
     let last : Entry = record { offset = gap - 63 * n; code = getD codes place 0 } in

@@ -15,6 +15,7 @@ use Rattle.format.specs.EncodeAnswer.{EncodeInput, blockOf}
 use Rattle.format.specs.Outcome.{acceptedFile}
 use Rattle.format.specs.BlockAnswer.{Buffers, buffersOf, decoded, decodedBuffers, idAnswer}
 use Rattle.format.specs.FileAnswer.{validated}
+use Rattle.format.specs.RuleEntries.{fillerCount}
 use Rattle.format.specs.RuleRecord.{Candidate, stepFits}
 use Rattle.format.specs.RuleBlock.{writtenFrom}
 
@@ -195,6 +196,10 @@ pub record RuleRight : Type 0 where
       ∷ (false, endsTA 8) ∷ (true, endsTA 3) ∷ (true, perfect 0) ∷ [])
   -- Reads of several kinds, byte for byte.
   pub block : blockOf 12 reference sevenReads ≡ sevenBlock
+  -- Fillers by the gap: none up to 63, one up to 126; a lone difference at 1953 takes the 31 entries
+  -- that a record can have, at 1954 one too many.
+  pub fillers : map fillerCount (0 ∷ 1 ∷ 63 ∷ 64 ∷ 126 ∷ 127 ∷ 1953 ∷ 1954 ∷ [])
+      ≡ 0 ∷ 0 ∷ 0 ∷ 1 ∷ 1 ∷ 2 ∷ 30 ∷ 31 ∷ []
   -- Steps up to 65,535.
   pub step-65535 : stepFits 1 65536 ≡ true
   pub step-65536 : stepFits 1 65537 ≡ false

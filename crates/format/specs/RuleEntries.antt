@@ -15,9 +15,10 @@ pub record Gap : Type 0 where
   pub gap : ℕ
   pub code : ℕ
 
--- How many fillers a gap gets.
+-- How many fillers a gap of d gets (02, Ticket 3): (d + 62) / 63, rounded down, less 1; none where
+-- d is 0, since the subtraction stops there.
 unfoldable pub fillerCount : (gap : ℕ) → ℕ
-fillerCount gap = (gap - 1) / maxEntryOffset
+fillerCount gap = (gap + 62) / maxEntryOffset - 1
 
 -- The entries of one gap from `place` on: its fillers, each with what the reference gives there,
 -- and the difference itself.
