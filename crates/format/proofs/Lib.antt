@@ -21,5 +21,8 @@ pub mod WrittenWellFormed
 pub mod WritesBlocks
 pub mod TestsMean
 pub mod KindMeans
+pub mod FillerRuns
+pub mod FillersHold
+pub mod LoneDifferences
 pub mod RuleMeans
 pub mod SpareBitsIgnored

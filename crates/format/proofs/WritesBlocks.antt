@@ -10,13 +10,14 @@ use mathlib.Core.List.{List, [], _∷_, _++_, map, map-map, flatten}
 use lib.ListN.{length, length-map}
 use lib.Dec.{eqb}
 use borrow.Author.Tests.{eq-eqb}
-use Rattle.base.specs.Lists.{placesFrom}
+use Rattle.base.specs.Lists.{placesFrom, All}
 use Rattle.base.specs.Paste.{pasted}
+use Rattle.base.proofs.AllLaws.{all-map}
 use Rattle.base.proofs.AnswerLaws.{cond-yes}
 use Rattle.dna.specs.Reference.{ReferenceFits, letterOfCode}
 use Rattle.dna.specs.Letters.{recordLetters}
 use Rattle.dna.specs.Counts.{Counted, recordCounts}
-use Rattle.dna.specs.Division.{Read, Division, divisionBytes, divisionLetters, readEnds}
+use Rattle.dna.specs.Division.{Read, Division, divisionBytes, divisionLetters, readsOf, readEnds}
 use Rattle.dna.specs.Rules.{totals, exact}
 use Rattle.tokens.specs.WrittenNames.{writtenNames}
 use Rattle.tokens.proofs.NamesLent.{names-lent}
@@ -30,11 +31,13 @@ use Rattle.format.specs.RuleBlock.{writtenFrom, writtenDivision, written
 use Rattle.format.specs.RuleBlock.{writtenSizes, writtenHeader, ruleBlock}
 use Rattle.format.specs.EncodeAnswer.{EncodeInput, candidatesOf, blockOf, encodeNumber}
 use Rattle.format.specs.EncodeAnswer.{encoded, encodedBuffer}
+use Rattle.format.specs.Fillers.{FillersHold}
 use Rattle.format.specs.Demands.{Room, readCounts, Decodes, LentFits, Writable, codesOf}
 use Rattle.format.specs.Demands.{RoomFor, filledWith, ruleCounts, Writes, Demand2Writing}
 use Rattle.format.proofs.WrittenDivision.{AllMeet, asRead, pieceOf, written-reads}
 use Rattle.format.proofs.WrittenBlock.{WrittenReads, all-meet}
 use Rattle.format.proofs.WrittenWellFormed.{ruleDivided, rule-header, rule-wellFormed}
+use Rattle.format.proofs.FillersHold.{written-fillers}
 use Rattle.format.proofs.ReadsExactly.Answers.{decodes}
 use Rattle.format.proofs.JudgesFiles.Prefixes.{one-divided}
 use Inputs.{reads-back, codes-lengths, reads-of-input, rule-fits}
@@ -67,6 +70,27 @@ rule-counts bases reference codes names candidates r =
     let meet : AllMeet reference codes ws = all-meet bases reference 0 codes candidates (r .bounded) (r .counted) (r .below) (r .fits) in
     ap (map (λ (read : Read). recordCounts reference (read .context) (read .piece .stored))) (written-reads bases reference codes candidates meet)
     ∙ map-map (λ (read : Read). recordCounts reference (read .context) (read .piece .stored)) asRead ws
+
+-- The records of the rule keep its promise about fillers, and so do the reads of its division.
+all-fillers : (bases : ℕ) (reference : List ℕ) (previous : ℕ) (codes : List (List ℕ)) (candidates : List Candidate)
+    → All (λ w. FillersHold reference (w .context) (w .stored)) (writtenFrom bases reference previous codes candidates)
+unfolding writtenFrom
+all-fillers bases reference previous [] candidates = tt
+all-fillers bases reference previous (read ∷ codes) [] = tt
+all-fillers bases reference previous (read ∷ codes) (candidate ∷ candidates) =
+    (written-fillers bases reference previous read candidate, all-fillers bases reference _ codes candidates)
+
+rule-fillers : (bases : ℕ) (reference : List ℕ) (codes : List (List ℕ)) (candidates : List Candidate) → WrittenReads bases codes candidates
+    → All (λ read. FillersHold reference (read .context) (read .piece .stored))
+    (readsOf bases (map length codes) (writtenDivision bases reference codes candidates))
+unfolding asRead pieceOf
+rule-fillers bases reference codes candidates r =
+    let ws : List Written = writtenFrom bases reference 0 codes candidates in
+    let meet : AllMeet reference codes ws = all-meet bases reference 0 codes candidates (r .bounded) (r .counted) (r .below) (r .fits) in
+    let keeps : Read → Type 0 = λ read. FillersHold reference (read .context) (read .piece .stored) in
+    subst (All keeps) (sym (written-reads bases reference codes candidates meet))
+    (all-map (λ w. FillersHold reference (w .context) (w .stored)) keeps asRead (λ w h. h) ws
+    (all-fillers bases reference 0 codes candidates))
 
 -- ---- The block of an input
 
@@ -158,6 +182,12 @@ writes bases reference reads names input fits lent w =
           let same = one-divided bases (blockOf bases reference input) divided (ruleDivided bases reference (codesOf reads) names (candidatesOf input))
           (d .wellFormed) e (d .divides) in
           (same .0 ∙ codes-lengths reads, same .1, same .2);
+      fillers = λ divided e.
+          let same = one-divided bases (blockOf bases reference input) divided (ruleDivided bases reference (codesOf reads) names (candidatesOf input))
+          (d .wellFormed) e (d .divides) in
+          subst (All (λ read. FillersHold reference (read .context) (read .piece .stored)))
+          (sym (ap₂ (readsOf bases) (same .0) (same .1)))
+          (rule-fillers bases reference (codesOf reads) (candidatesOf input) (rule-fits bases reference reads names input fits lent w .reads-fit));
       reads-back = λ rest buffers room. decodes-back bases reference reads names input rest buffers fits lent w room;
     }
 

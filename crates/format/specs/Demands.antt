@@ -48,6 +48,7 @@ use Rattle.format.specs.EncodeAnswer.{EncodeInput, candidatesOf, blockOf
 use Rattle.format.specs.EncodeAnswer.{candidateCountWrong, readEndsInvalid, letterInvalid}
 use Rattle.format.specs.EncodeAnswer.{namesWrong, blockCapacityTooSmall, encoded}
 use Rattle.format.specs.EncodeAnswer.{encodedBuffer}
+use Rattle.format.specs.Fillers.{FillersHold}
 
 -- ---- Demand 1: a refused call changes nothing and counts nothing
 
@@ -361,6 +362,11 @@ pub record Writes (bases : ℕ) (reference : List ℕ) (reads names : List (List
       → (divided .lengths ≡ map length reads)
       × (divided .division ≡ writtenDivision bases reference (codesOf reads) (candidatesOf input))
       × (divided .names ≡ names)
+  -- In each of its records each difference comes right after the fillers of its gap (02, Ticket 3).
+  pub fillers : (divided : BlockDivision)
+      → DividesBlock bases (blockOf bases reference input) divided
+      → All (λ read. FillersHold reference (read .context) (read .piece .stored))
+      (readsOf bases (divided .lengths) (divided .division))
   -- Decoding it, whatever follows, gives these letters and names, these ends and the counts of the
   -- rule's records.
   pub reads-back : (rest : List ℕ) (buffers : Buffers) → RoomFor reads names buffers

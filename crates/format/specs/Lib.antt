@@ -14,6 +14,7 @@ pub mod RuleBlock
 pub mod EncodeAnswer
 pub mod Answered
 pub mod Meaning
+pub mod Fillers
 pub mod RuleMeaning
 pub mod Demands
 pub mod SpareBits

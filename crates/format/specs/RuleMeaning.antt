@@ -22,6 +22,7 @@ use Rattle.format.specs.RuleBlock.{storedFrom, allEqual, writtenHeader}
 use Rattle.format.specs.EncodeAnswer.{EncodeInput, readCountTooLarge}
 use Rattle.format.specs.EncodeAnswer.{candidateCountWrong, readEndsInvalid, letterInvalid}
 use Rattle.format.specs.EncodeAnswer.{namesWrong}
+use Rattle.format.specs.Fillers.{CountOf, FillerRule, LoneDifferences}
 use Rattle.tokens.specs.LentNames.{LentNames}
 
 -- The ends rise from 0 by 1 to 100,000, and the last is the letters' count (0 if no reads).
@@ -165,9 +166,13 @@ pub record RuleMeans : Type 0 where
   pub differs : (expected : ℕ → ℕ) (codes : List ℕ) (k : ℕ)
       → (differsAt expected codes k ≡ true)
       ↔ ((getD codes k 0 ≡ 4 → ⊥) × (getD codes k 0 ≡ expected k → ⊥))
-  -- Fillers until 63 or less remains.
+  -- Fillers until 63 or less remains; by the rule (02, Ticket 3), as many.
   pub none : (gap : ℕ) → gap ≤ 63 → fillerCount gap ≡ 0
   pub more : (gap : ℕ) → 63 < gap → fillerCount gap ≡ suc (fillerCount (gap - 63))
+  pub rule : (gap : ℕ) → CountOf gap (fillerCount gap)
+  -- In a written record each difference comes right after that many fillers.
+  pub fillers : FillerRule
+  pub lone : LoneDifferences
   -- Letters under N are stored as A in the ends.
   pub ends : (codes : List ℕ) (candidate : Candidate)
       → candidate .left + candidate .right < length codes
