@@ -64,8 +64,9 @@ fn entries(read: &[u8], given: &[u8]) -> Option<Vec<u8>> {
     let mut steps: Vec<(usize, usize, u8)> = Vec::new();
     let mut from = 0;
     for at in differing {
-        // Fillers at from+63, from+126, ... while more than 63 remains.
-        let fillers = (at - from).saturating_sub(1) / 63;
+        // Fillers at from+63, from+126, ...; 02, Ticket 3: "(d+62)/63 rounded
+        // down, less 1", "none where the gap is 0".
+        let fillers = ((at - from + 62) / 63).saturating_sub(1);
         for filler in 1..=fillers {
             steps.push((from + 63 * (filler - 1), from + 63 * filler, given[from + 63 * filler]));
         }
