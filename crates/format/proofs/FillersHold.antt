@@ -1,9 +1,8 @@
 -- In a record that the fixed rule writes, each difference comes right after the fillers of its gap (02, Ticket 3).
 -- Assumes nothing.
 use mathlib.Core.Path.{_≡_, refl, sym, ap, ap₂, _∙_, subst}
-use Prim.Native.Nat.{ℕ, suc, _+_, _<_}
+use Prim.Native.Nat.{ℕ, _+_, _<_}
 use native.Mathlib.Omega.{arith}
-use native.Mathlib.Nat.{not-suc-le-zero}
 use mathlib.Core.Bool.{Bool, true, false, not}
 use mathlib.Core.List.{List, []}
 use lib.ListN.{length, getD}
@@ -12,15 +11,13 @@ use Rattle.base.specs.Lists.{build, part, member, placesWhere}
 use Rattle.base.proofs.ListLaws.{by-test}
 use Rattle.base.proofs.PlacesWhereLaws.{places-rise, all-keep}
 use Rattle.base.proofs.Tests.{and-both, both-and, not-true, false-not}
-use Rattle.dna.specs.Reference.{strandBase}
 use Rattle.dna.specs.Record.{ReadContext, Entry, RecordFields, StoredRecord}
-use Rattle.dna.specs.Alignment.{entriesOf, leftOf, referenceIndex, entryPlaces, nPositions}
+use Rattle.dna.specs.Alignment.{entriesOf, entryPlaces, nPositions}
 use Rattle.dna.specs.Counts.{isFiller, isUnderN, isDifference}
 use Rattle.format.specs.RuleEntries.{differsAt, gapsOf}
 use Rattle.format.specs.RuleRecord.{Candidate, nOffsetsOf, alignedCount, expectedAt}
 use Rattle.format.specs.RuleRecord.{candidateGaps, candidateEntries, placeUsed, alignedFields}
-use Rattle.format.specs.RuleRecord.{chooseRaw4, chooseAligned, chooseRaw, choiceFor, Written}
-use Rattle.format.specs.RuleRecord.{writtenAs, written}
+use Rattle.format.specs.RuleRecord.{choiceFor, writtenAs, written}
 use Rattle.format.specs.Fillers.{RightAfter, FillersHold, FillerRule}
 use Rattle.format.proofs.WrittenLetters.{AtPlace, at-place, Before, n-member, expected-is}
 use Rattle.format.proofs.WrittenLetters.{length-aligned, alignedCodes, getD-alignedCodes}

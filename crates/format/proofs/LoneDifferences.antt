@@ -15,8 +15,7 @@ use Rattle.format.specs.RuleEntries.{gapsOf}
 use Rattle.format.specs.RuleRecord.{Candidate, nOffsetsOf, alignedCount, expectedAt}
 use Rattle.format.specs.RuleRecord.{candidateGaps, candidateEntries, placeUsed, chooseRaw}
 use Rattle.format.specs.RuleRecord.{choiceFor}
-use Rattle.format.specs.Fillers.{RightAfter, CountOf, FillersHold, Lone, Takes, LoneLetter}
-use Rattle.format.specs.Fillers.{LoneDifferences}
+use Rattle.format.specs.Fillers.{RightAfter, CountOf, Takes, LoneLetter, LoneDifferences}
 use Rattle.format.proofs.WrittenEntries.{gap-fillers}
 use Rattle.format.proofs.WrittenLetters.{length-aligned}
 use Rattle.format.proofs.WrittenRecord.{used}
