@@ -16,29 +16,32 @@ use Rattle.base.proofs.Tests.{absurd-test, and-both, not-true}
 use Rattle.dna.specs.Record.{Entry}
 use Rattle.format.specs.RuleEntries.{fillerCount, gapEntries, entriesOfGaps, differsAt}
 use Rattle.format.specs.RuleEntries.{gapsTo}
-use Rattle.format.specs.Fillers.{CountOf}
+use Rattle.format.specs.Fillers.{FillersOfGap}
 use Rattle.format.proofs.WrittenEntries.{Leaves, filler-leaves, fillers, gap-fillers}
 
 -- ---- By number
 
--- Number `number` comes right after `count` fillers, its gap counted from `from` where it is the first difference.
-pub record Run (isFiller : ℕ → Bool) (place : ℕ → ℕ) (from number count gap : ℕ) : Type 0 where
+-- Number `number` comes right after as many fillers as its gap gets, the gap counted from `from` where it is the first
+-- difference.
+pub record Run (isFiller : ℕ → Bool) (offset place : ℕ → ℕ) (from number : ℕ) : Type 0 where
   pub start : ℕ
+  pub count : ℕ
+  pub gap : ℕ
+  pub rule : FillersOfGap gap count
   pub counted : start + count ≡ number
-  pub fillers : (k : ℕ) → start ≤ k → k < number → isFiller k ≡ true
+  pub fillers : (k : ℕ) → start ≤ k → k < number → (isFiller k ≡ true) × (offset k ≡ 63)
   pub first : start ≡ 0 → from + gap ≡ place number
   pub later : (before : ℕ) → suc before ≡ start → (isFiller before ≡ false) × (place before + gap ≡ place number)
 
 -- All of `size` entries are such runs, and each difference stands at a place with a property.
-pub record Runs (isFiller : ℕ → Bool) (place : ℕ → ℕ) (Such : ℕ → Type 0) (from size : ℕ) : Type 0 where
-  pub each : (number : ℕ) → number < size → isFiller number ≡ false
-      → (count : ℕ) × (gap : ℕ) × CountOf gap count × Run isFiller place from number count gap
+pub record Runs (isFiller : ℕ → Bool) (offset place : ℕ → ℕ) (Such : ℕ → Type 0) (from size : ℕ) : Type 0 where
+  pub each : (number : ℕ) → number < size → isFiller number ≡ false → Run isFiller offset place from number
   pub last : (number : ℕ) → suc number ≡ size → isFiller number ≡ false
   pub stands : (number : ℕ) → number < size → isFiller number ≡ false → Such (place number)
 
 -- None at all.
-no-runs : (isFiller : ℕ → Bool) (place : ℕ → ℕ) (Such : ℕ → Type 0) (from : ℕ) → Runs isFiller place Such from 0
-no-runs isFiller place Such from =
+no-runs : (isFiller : ℕ → Bool) (offset place : ℕ → ℕ) (Such : ℕ → Type 0) (from : ℕ) → Runs isFiller offset place Such from 0
+no-runs isFiller offset place Such from =
     record {
       each = λ number h. absurd (not-suc-le-zero h);
       last = λ number e. absurd (omega arith);
@@ -46,20 +49,24 @@ no-runs isFiller place Such from =
     }
 
 -- One run, of n fillers and a difference at number n, and after it others.
-module _ (isFiller : ℕ → Bool) (place : ℕ → ℕ) (Such : ℕ → Type 0) (from n gap : ℕ)
-    (fill : (k : ℕ) → k < n → isFiller k ≡ true) (ends : isFiller n ≡ false) (at : from + gap ≡ place n) (rule : CountOf gap n)
-    (such : Such (place n)) (isFiller′ : ℕ → Bool) (place′ : ℕ → ℕ)
-    (test-later : (k : ℕ) → isFiller (suc n + k) ≡ isFiller′ k) (place-later : (k : ℕ) → place (suc n + k) ≡ place′ k) where
+module _ (isFiller : ℕ → Bool) (offset place : ℕ → ℕ) (Such : ℕ → Type 0) (from n gap : ℕ)
+    (fill : (k : ℕ) → k < n → (isFiller k ≡ true) × (offset k ≡ 63)) (ends : isFiller n ≡ false) (at : from + gap ≡ place n)
+    (rule : FillersOfGap gap n) (such : Such (place n)) (isFiller′ : ℕ → Bool) (offset′ place′ : ℕ → ℕ)
+    (test-later : (k : ℕ) → isFiller (suc n + k) ≡ isFiller′ k) (offset-later : (k : ℕ) → offset (suc n + k) ≡ offset′ k)
+    (place-later : (k : ℕ) → place (suc n + k) ≡ place′ k) where
   -- A number is a filler's, the difference's or one of the others.
   by-number {ℓ} : {X : Type ℓ} (number : ℕ) → isFiller number ≡ false → (number ≡ n → X) → ((k : ℕ) → suc n + k ≡ number → X) → X
   by-number number t here there =
-      by-order number n (λ low. absurd-test (sym (fill number low) ∙ t))
+      by-order number n (λ low. absurd-test (sym (fill number low .0) ∙ t))
       (λ high. by-order n number (λ above. there (number - suc n) (omega arith)) (λ same. here (omega arith)))
 
-  run-here : Run isFiller place from n n gap
+  run-here : Run isFiller offset place from n
   run-here =
       record {
         start = 0;
+        count = n;
+        gap = gap;
+        rule = rule;
         counted = omega arith;
         fillers = λ k low high. fill k high;
         first = λ e. at;
@@ -67,51 +74,45 @@ module _ (isFiller : ℕ → Bool) (place : ℕ → ℕ) (Such : ℕ → Type 0)
       }
 
   -- What came before the others' first run is the difference.
-  run-there : (k count gap′ : ℕ) → Run isFiller′ place′ (place n) k count gap′ → Run isFiller place from (suc n + k) count gap′
-  run-there k count gap′ run =
-      let before-is : (start before : ℕ) → (start ≡ 0 → place n + gap′ ≡ place′ k)
+  before-is : (k gap′ start before : ℕ) → (start ≡ 0 → place n + gap′ ≡ place′ k)
       → ((b : ℕ) → suc b ≡ start → (isFiller′ b ≡ false) × (place′ b + gap′ ≡ place′ k)) → suc before ≡ suc n + start
       → (isFiller before ≡ false) × (place before + gap′ ≡ place (suc n + k))
-      = λ start before.
-      elim start
-      as (λ s.
-      (s ≡ 0 → place n + gap′ ≡ place′ k)
-      → ((b : ℕ) → suc b ≡ s → (isFiller′ b ≡ false) × (place′ b + gap′ ≡ place′ k)) → suc before ≡ suc n + s
-      → (isFiller before ≡ false) × (place before + gap′ ≡ place (suc n + k))) [
-        | zero ↦ λ first later e.
-            let same : n ≡ before = omega (arith, e) in
-            subst (λ (b : ℕ). (isFiller b ≡ false) × (place b + gap′ ≡ place (suc n + k))) same
-            (ends, first refl ∙ sym (place-later k))
-        | suc b ↦ λ first later e.
-            let same : suc n + b ≡ before = omega (arith, e) in
-            let found = later b refl in
-            subst (λ (b : ℕ). (isFiller b ≡ false) × (place b + gap′ ≡ place (suc n + k))) same (
-              test-later b ∙ found .0,
-              ap (λ (p : ℕ). p + gap′) (place-later b) ∙ found .1 ∙ sym (place-later k),
-            )
-      ] in
+  before-is k gap′ zero before first later e =
+      let same : n ≡ before = omega (arith, e) in
+      subst (λ (b : ℕ). (isFiller b ≡ false) × (place b + gap′ ≡ place (suc n + k))) same
+      (ends, first refl ∙ sym (place-later k))
+  before-is k gap′ (suc b) before first later e =
+      let same : suc n + b ≡ before = omega (arith, e) in
+      let found = later b refl in
+      subst (λ (b : ℕ). (isFiller b ≡ false) × (place b + gap′ ≡ place (suc n + k))) same
+      (test-later b ∙ found .0, ap (λ (p : ℕ). p + gap′) (place-later b) ∙ found .1 ∙ sym (place-later k))
+
+  run-there : (k : ℕ) → Run isFiller′ offset′ place′ (place n) k → Run isFiller offset place from (suc n + k)
+  run-there k run =
       record {
         start = suc n + run .start;
+        count = run .count;
+        gap = run .gap;
+        rule = run .rule;
         counted = omega (arith, run .counted);
         fillers = λ i low high.
             let back : suc n + (i - suc n) ≡ i = omega arith in
-            ap isFiller (sym back) ∙ test-later (i - suc n) ∙ run .fillers (i - suc n) (omega arith) (omega arith);
+            let found = run .fillers (i - suc n) (omega arith) (omega arith) in (
+              ap isFiller (sym back) ∙ test-later (i - suc n) ∙ found .0,
+              ap offset (sym back) ∙ offset-later (i - suc n) ∙ found .1,
+            );
         first = λ e. absurd (omega arith);
-        later = λ before e. before-is (run .start) before (run .first) (run .later) e;
+        later = λ before e. before-is k (run .gap) (run .start) before (run .first) (run .later) e;
       }
 
-  pub more-runs : (size : ℕ) → Runs isFiller′ place′ Such (place n) size → Runs isFiller place Such from (suc n + size)
+  pub more-runs : (size : ℕ) → Runs isFiller′ offset′ place′ Such (place n) size → Runs isFiller offset place Such from (suc n + size)
   more-runs size runs =
       record {
         each = λ number h t.
-            by-number number t
-            (λ e.
-            subst (λ (i : ℕ). (count : ℕ) × (gap : ℕ) × CountOf gap count × Run isFiller place from i count gap) (sym e)
-            (n, gap, rule, run-here))
+            by-number number t (λ e. subst (Run isFiller offset place from) (sym e) run-here)
             (λ k e.
-            let found = runs .each k (omega arith) (sym (test-later k) ∙ ap isFiller e ∙ t) in
-            subst (λ (i : ℕ). (count : ℕ) × (gap : ℕ) × CountOf gap count × Run isFiller place from i count gap) e
-            (found .0, found .1, found .2, run-there k (found .0) (found .1) (found .3)));
+            subst (Run isFiller offset place from) e
+            (run-there k (runs .each k (omega arith) (sym (test-later k) ∙ ap isFiller e ∙ t))));
         last = λ number e.
             by-order n number
             (λ above.
@@ -130,54 +131,61 @@ module _ (isFiller : ℕ → Bool) (place : ℕ → ℕ) (Such : ℕ → Type 0)
 -- ---- Entries
 
 -- A gap gets as many fillers as the rule says.
-pub count-of : (gap : ℕ) → CountOf gap (fillerCount gap)
+pub count-of : (gap : ℕ) → FillersOfGap gap (fillerCount gap)
 unfolding fillerCount
 count-of gap = record { none = λ e. omega arith; some = λ h. refl }
 
--- The code of entry k, the letter that it stands on, and whether it is what is expected there.
-unfoldable pub codeOfEntry : (entries : List Entry) (k : ℕ) → ℕ
-codeOfEntry entries k = getD (map (λ entry. entry .code) entries) k 0
+-- The code of entry k, its offset, the letter that it stands on, and whether it is what is expected there.
+unfoldable pub codeIn : (entries : List Entry) (k : ℕ) → ℕ
+codeIn entries k = getD (map (λ entry. entry .code) entries) k 0
 
-unfoldable pub placeOfEntry : (from : ℕ) (entries : List Entry) (k : ℕ) → ℕ
-placeOfEntry from entries k = getD (placesFrom from (map (λ entry. entry .offset) entries)) k 0
+unfoldable pub offsetIn : (entries : List Entry) (k : ℕ) → ℕ
+offsetIn entries k = getD (map (λ entry. entry .offset) entries) k 0
+
+unfoldable pub placeIn : (from : ℕ) (entries : List Entry) (k : ℕ) → ℕ
+placeIn from entries k = getD (placesFrom from (map (λ entry. entry .offset) entries)) k 0
 
 unfoldable pub isExpected : (expected : ℕ → ℕ) (from : ℕ) (entries : List Entry) (k : ℕ) → Bool
-isExpected expected from entries k = eqb (codeOfEntry entries k) (expected (placeOfEntry from entries k))
+isExpected expected from entries k = eqb (codeIn entries k) (expected (placeIn from entries k))
 
 -- After the fillers come the others.
 place-after : (n : ℕ) (expected : ℕ → ℕ) (from : ℕ) (rest : List Entry) (k : ℕ)
-    → placeOfEntry from (fillers n expected from rest) (n + k) ≡ placeOfEntry (from + 63 * n) rest k
-unfolding placeOfEntry fillers placesFrom
+    → placeIn from (fillers n expected from rest) (n + k) ≡ placeIn (from + 63 * n) rest k
+unfolding placeIn fillers placesFrom
 place-after zero expected from rest k =
     let none : from ≡ from + 63 * 0 = omega arith in
     let same : 0 + k ≡ k = omega arith in
-    ap₂ (λ (p i : ℕ). placeOfEntry p rest i) none same
+    ap₂ (λ (p i : ℕ). placeIn p rest i) none same
 place-after (suc n) expected from rest k =
     let next : from + 63 + 63 * n ≡ from + 63 * suc n = omega arith in
     let step : suc n + k ≡ suc (n + k) = omega arith in
-    ap (λ (i : ℕ). placeOfEntry from (fillers (suc n) expected from rest) i) step
+    ap (λ (i : ℕ). placeIn from (fillers (suc n) expected from rest) i) step
     ∙ place-after n expected (from + 63) rest k
-    ∙ ap (λ (p : ℕ). placeOfEntry p rest k) next
+    ∙ ap (λ (p : ℕ). placeIn p rest k) next
 
-code-after : (n : ℕ) (expected : ℕ → ℕ) (from : ℕ) (rest : List Entry) (k : ℕ)
-    → codeOfEntry (fillers n expected from rest) (n + k) ≡ codeOfEntry rest k
-unfolding codeOfEntry fillers
-code-after zero expected from rest k = let same : 0 + k ≡ k = omega arith in ap (codeOfEntry rest) same
-code-after (suc n) expected from rest k =
+-- Of each field of theirs, the code and the offset.
+field-after : (field : Entry → ℕ) (n : ℕ) (expected : ℕ → ℕ) (from : ℕ) (rest : List Entry) (k : ℕ)
+    → getD (map field (fillers n expected from rest)) (n + k) 0 ≡ getD (map field rest) k 0
+unfolding fillers
+field-after field zero expected from rest k =
+    let same : 0 + k ≡ k = omega arith in
+    ap (λ (i : ℕ). getD (map field rest) i 0) same
+field-after field (suc n) expected from rest k =
     let step : suc n + k ≡ suc (n + k) = omega arith in
-    ap (codeOfEntry (fillers (suc n) expected from rest)) step ∙ code-after n expected (from + 63) rest k
+    ap (λ (i : ℕ). getD (map field (fillers (suc n) expected from rest)) i 0) step
+    ∙ field-after field n expected (from + 63) rest k
 
 pub length-fillers : (n : ℕ) (expected : ℕ → ℕ) (from : ℕ) (rest : List Entry) → length (fillers n expected from rest) ≡ n + length rest
 unfolding fillers
 length-fillers zero expected from rest = omega arith
 length-fillers (suc n) expected from rest = omega (arith, length-fillers n expected (from + 63) rest)
 
--- A filler is what is expected there.
+-- A filler is what is expected there, 63 past the entry before.
 filler-expected : (n : ℕ) (expected : ℕ → ℕ) (from : ℕ) (rest : List Entry) (k : ℕ) → k < n
-    → isExpected expected from (fillers n expected from rest) k ≡ true
-unfolding isExpected codeOfEntry placeOfEntry fillers placesFrom
+    → (isExpected expected from (fillers n expected from rest) k ≡ true) × (offsetIn (fillers n expected from rest) k ≡ 63)
+unfolding isExpected codeIn offsetIn placeIn fillers placesFrom
 filler-expected zero expected from rest k h = absurd (not-suc-le-zero h)
-filler-expected (suc n) expected from rest zero h = eq-eqb (expected (from + 63)) (expected (from + 63)) refl
+filler-expected (suc n) expected from rest zero h = (eq-eqb (expected (from + 63)) (expected (from + 63)) refl, refl)
 filler-expected (suc n) expected from rest (suc k) h = filler-expected n expected (from + 63) rest k (omega arith)
 
 -- Where a read differs: inside the aligned part, and from what is expected there.
@@ -188,10 +196,11 @@ Differs expected codes bound place = (place < bound) × (differsAt expected code
 pub runs-of-gaps : (expected : ℕ → ℕ) (codes : List ℕ) (bound from low : ℕ) (places : List ℕ) → from ≤ low
     → Rise low bound places → All (λ place. differsAt expected codes place ≡ true) places
     → Runs (isExpected expected from (entriesOfGaps expected from (gapsTo codes from places)))
-    (placeOfEntry from (entriesOfGaps expected from (gapsTo codes from places))) (Differs expected codes bound) from
+    (offsetIn (entriesOfGaps expected from (gapsTo codes from places)))
+    (placeIn from (entriesOfGaps expected from (gapsTo codes from places))) (Differs expected codes bound) from
     (length (entriesOfGaps expected from (gapsTo codes from places)))
-unfolding entriesOfGaps gapsTo isExpected codeOfEntry placeOfEntry placesFrom differsAt
-runs-of-gaps expected codes bound from low [] below r all = no-runs _ _ (Differs expected codes bound) from
+unfolding entriesOfGaps gapsTo isExpected codeIn offsetIn placeIn placesFrom differsAt
+runs-of-gaps expected codes bound from low [] below r all = no-runs _ _ _ (Differs expected codes bound) from
 runs-of-gaps expected codes bound from low (there ∷ places) below r all =
     let Such : ℕ → Type 0 = Differs expected codes bound in
     let other : eqb (getD codes there 0) (expected there) ≡ false =
@@ -208,35 +217,38 @@ runs-of-gaps expected codes bound from low (there ∷ places) below r all =
     = gap-fillers expected from (record { gap = gap; code = code }) rest in
     let meet : from + 63 * n + (gap - 63 * n) ≡ there = omega arith in
     let none : n + 0 ≡ n = omega arith in
-    let place-last : placeOfEntry from entries n ≡ there =
-    ap (placeOfEntry from entries) (sym none) ∙ place-after n expected from (last ∷ rest) 0 ∙ meet in
-    let code-last : codeOfEntry entries n ≡ code = ap (codeOfEntry entries) (sym none) ∙ code-after n expected from (last ∷ rest) 0 in
+    let place-last : placeIn from entries n ≡ there =
+    ap (placeIn from entries) (sym none) ∙ place-after n expected from (last ∷ rest) 0 ∙ meet in
+    let code-last : codeIn entries n ≡ code = ap (codeIn entries) (sym none) ∙ field-after (λ entry. entry .code) n expected from (last ∷ rest) 0 in
     let step : (k : ℕ) → suc n + k ≡ n + suc k = λ k. omega arith in
-    let place-rest : (k : ℕ) → placeOfEntry from entries (suc n + k) ≡ placeOfEntry there rest k =
+    let place-rest : (k : ℕ) → placeIn from entries (suc n + k) ≡ placeIn there rest k =
     λ k.
-    ap (placeOfEntry from entries) (step k)
+    ap (placeIn from entries) (step k)
     ∙ place-after n expected from (last ∷ rest) (suc k)
-    ∙ ap (λ (p : ℕ). placeOfEntry p rest k) meet in
-    let code-rest : (k : ℕ) → codeOfEntry entries (suc n + k) ≡ codeOfEntry rest k =
-    λ k. ap (codeOfEntry entries) (step k) ∙ code-after n expected from (last ∷ rest) (suc k) in
-    let later : Runs (isExpected expected there rest) (placeOfEntry there rest) Such there (length rest) =
+    ∙ ap (λ (p : ℕ). placeIn p rest k) meet in
+    let code-rest : (k : ℕ) → codeIn entries (suc n + k) ≡ codeIn rest k =
+    λ k. ap (codeIn entries) (step k) ∙ field-after (λ entry. entry .code) n expected from (last ∷ rest) (suc k) in
+    let offset-rest : (k : ℕ) → offsetIn entries (suc n + k) ≡ offsetIn rest k =
+    λ k. ap (offsetIn entries) (step k) ∙ field-after (λ entry. entry .offset) n expected from (last ∷ rest) (suc k) in
+    let later : Runs (isExpected expected there rest) (offsetIn rest) (placeIn there rest) Such there (length rest) =
     subst
     (λ (p : ℕ).
     Runs (isExpected expected there (entriesOfGaps expected p (gapsTo codes there places)))
-    (placeOfEntry there (entriesOfGaps expected p (gapsTo codes there places))) Such there
+    (offsetIn (entriesOfGaps expected p (gapsTo codes there places)))
+    (placeIn there (entriesOfGaps expected p (gapsTo codes there places))) Such there
     (length (entriesOfGaps expected p (gapsTo codes there places))))
     (sym back)
     (runs-of-gaps expected codes bound there (suc there) places (omega arith) (r .2) (all .1)) in
-    let all-of : Runs (isExpected expected from entries) (placeOfEntry from entries) Such from (suc n + length rest) =
-    more-runs (isExpected expected from entries) (placeOfEntry from entries) Such from n gap
+    let all-of : Runs (isExpected expected from entries) (offsetIn entries) (placeIn from entries) Such from (suc n + length rest) =
+    more-runs (isExpected expected from entries) (offsetIn entries) (placeIn from entries) Such from n gap
     (filler-expected n expected from (last ∷ rest))
     (ap₂ (λ (c p : ℕ). eqb c (expected p)) code-last place-last ∙ other)
     (back ∙ sym place-last) (count-of gap) (subst Such (sym place-last) (r .1, all .0))
-    (isExpected expected there rest) (placeOfEntry there rest)
-    (λ k. ap₂ (λ (c p : ℕ). eqb c (expected p)) (code-rest k) (place-rest k)) place-rest (length rest)
-    (subst (λ (p : ℕ). Runs (isExpected expected there rest) (placeOfEntry there rest) Such p (length rest)) (sym place-last) later) in
+    (isExpected expected there rest) (offsetIn rest) (placeIn there rest)
+    (λ k. ap₂ (λ (c p : ℕ). eqb c (expected p)) (code-rest k) (place-rest k)) offset-rest place-rest (length rest)
+    (subst (λ (p : ℕ). Runs (isExpected expected there rest) (offsetIn rest) (placeIn there rest) Such p (length rest)) (sym place-last) later) in
     let size : suc n + length rest ≡ length entries = omega (arith, length-fillers n expected from (last ∷ rest)) in
     subst
-    (λ (es : List Entry). Runs (isExpected expected from es) (placeOfEntry from es) Such from (length es))
+    (λ (es : List Entry). Runs (isExpected expected from es) (offsetIn es) (placeIn from es) Such from (length es))
     (sym whole)
-    (subst (λ (s : ℕ). Runs (isExpected expected from entries) (placeOfEntry from entries) Such from s) size all-of)
+    (subst (λ (s : ℕ). Runs (isExpected expected from entries) (offsetIn entries) (placeIn from entries) Such from s) size all-of)

@@ -18,11 +18,12 @@ use Rattle.format.specs.RuleEntries.{differsAt, gapsOf}
 use Rattle.format.specs.RuleRecord.{Candidate, nOffsetsOf, alignedCount, expectedAt}
 use Rattle.format.specs.RuleRecord.{candidateGaps, candidateEntries, placeUsed, alignedFields}
 use Rattle.format.specs.RuleRecord.{choiceFor, writtenAs, written}
-use Rattle.format.specs.Fillers.{RightAfter, FillersHold, FillerRule}
+use Rattle.format.specs.Fillers.{offsetOfEntry, letterOfEntry, RightAfter, FillersHold}
+use Rattle.format.specs.Fillers.{FillerRule}
 use Rattle.format.proofs.WrittenLetters.{AtPlace, at-place, Before, n-member, expected-is}
 use Rattle.format.proofs.WrittenLetters.{length-aligned, alignedCodes, getD-alignedCodes}
 use Rattle.format.proofs.WrittenRecord.{used}
-use Rattle.format.proofs.FillerRuns.{Run, Runs, Differs, codeOfEntry, placeOfEntry}
+use Rattle.format.proofs.FillerRuns.{Run, Runs, Differs, codeIn, offsetIn, placeIn}
 use Rattle.format.proofs.FillerRuns.{isExpected, runs-of-gaps}
 
 -- The entries of a candidate's place are runs of fillers, each ended by a difference.
@@ -36,7 +37,7 @@ module _ (reference codes : List ℕ) (candidate : Candidate) where
   abbrev entries : List Entry
   entries = candidateEntries reference codes candidate
 
-  candidate-runs : Runs (isExpected expected 0 entries) (placeOfEntry 0 entries) (Differs expected aligned (length aligned)) 0 (length entries)
+  candidate-runs : Runs (isExpected expected 0 entries) (offsetIn entries) (placeIn 0 entries) (Differs expected aligned (length aligned)) 0 (length entries)
   unfolding candidateEntries candidateGaps gapsOf placesWhere
   candidate-runs =
       runs-of-gaps expected aligned (length aligned) 0 0 (placesWhere (differsAt expected aligned) (length aligned)) (omega arith)
@@ -53,15 +54,19 @@ module _ (bases : ℕ) (reference : List ℕ) (previous : ℕ) (codes : List ℕ
   stored = record { fields = fields; nOffsets = nOffsetsOf codes }
 
   -- What the reader finds at an entry is what the rule put there.
-  places-are : (number : ℕ) → getD (entryPlaces fields) number 0 ≡ placeOfEntry 0 (candidateEntries reference codes candidate) number
-  unfolding entryPlaces placeOfEntry
-  places-are number = ap (λ (es : List Entry). placeOfEntry 0 es number) (place .entries)
+  places-are : (number : ℕ) → letterOfEntry stored number ≡ placeIn 0 (candidateEntries reference codes candidate) number
+  unfolding entryPlaces placeIn
+  places-are number = ap (λ (es : List Entry). placeIn 0 es number) (place .entries)
+
+  offsets-are : (number : ℕ) → offsetOfEntry stored number ≡ offsetIn (candidateEntries reference codes candidate) number
+  unfolding offsetIn
+  offsets-are number = ap (λ (es : List Entry). offsetIn es number) (place .entries)
 
   fillers-are : (number : ℕ) → isFiller reference context fields number
       ≡ isExpected (expectedAt reference codes candidate) 0 (candidateEntries reference codes candidate) number
-  unfolding isFiller isExpected codeOfEntry
+  unfolding isFiller isExpected codeIn
   fillers-are number =
-      ap₂ eqb (ap (λ (es : List Entry). codeOfEntry es number) (place .entries))
+      ap₂ eqb (ap (λ (es : List Entry). codeIn es number) (place .entries))
       (expected-is bases reference previous codes candidate fields context place before clips (getD (entryPlaces fields) number 0)
       ∙ ap (expectedAt reference codes candidate) (places-are number))
 
@@ -71,17 +76,21 @@ module _ (bases : ℕ) (reference : List ℕ) (previous : ℕ) (codes : List ℕ
   abbrev Such : ℕ → Type 0
   Such = Differs (expectedAt reference codes candidate) own (alignedCount codes candidate)
 
-  runs : Runs (isFiller reference context fields) (λ number. getD (entryPlaces fields) number 0) Such 0 (length (entriesOf fields))
+  runs : Runs (isFiller reference context fields) (offsetOfEntry stored) (letterOfEntry stored) Such 0 (length (entriesOf fields))
   unfolding alignedCodes
   runs =
+      let test : ℕ → Bool = isFiller reference context fields in
+      let many : ℕ = length (entriesOf fields) in
       let size : length own ≡ alignedCount codes candidate = length-aligned codes candidate (omega arith) in
       let entries : List Entry = candidateEntries reference codes candidate in
       let expected : ℕ → ℕ = expectedAt reference codes candidate in
-      subst (λ (at : ℕ → ℕ). Runs (isFiller reference context fields) at Such 0 (length (entriesOf fields))) (λ i number. sym (places-are number) i)
-      (subst (λ (test : ℕ → Bool). Runs test (placeOfEntry 0 entries) Such 0 (length (entriesOf fields))) (λ i number. sym (fillers-are number) i)
-      (subst (λ (n : ℕ). Runs (isExpected expected 0 entries) (placeOfEntry 0 entries) Such 0 n) (ap length (sym (place .entries)))
-      (subst (λ (n : ℕ). Runs (isExpected expected 0 entries) (placeOfEntry 0 entries) (Differs expected own n) 0 (length entries)) size
-      (candidate-runs reference codes candidate))))
+      subst (λ (at : ℕ → ℕ). Runs test (offsetOfEntry stored) at Such 0 many) (λ i number. sym (places-are number) i)
+      (subst (λ (past : ℕ → ℕ). Runs test past (placeIn 0 entries) Such 0 many) (λ i number. sym (offsets-are number) i)
+      (subst (λ (is : ℕ → Bool). Runs is (offsetIn entries) (placeIn 0 entries) Such 0 many) (λ i number. sym (fillers-are number) i)
+      (subst (λ (n : ℕ). Runs (isExpected expected 0 entries) (offsetIn entries) (placeIn 0 entries) Such 0 n) (ap length (sym (place .entries)))
+      (subst
+      (λ (n : ℕ). Runs (isExpected expected 0 entries) (offsetIn entries) (placeIn 0 entries) (Differs expected own n) 0 (length entries)) size
+      (candidate-runs reference codes candidate)))))
 
   -- No difference stands under an N.
   plain : (number : ℕ) → number < length (entriesOf fields) → isFiller reference context fields number ≡ false
@@ -106,12 +115,15 @@ module _ (bases : ℕ) (reference : List ℕ) (previous : ℕ) (codes : List ℕ
   unfolding isDifference
   no-filler number d = not-true _ (and-both (not (isFiller reference context fields number)) _ d .0)
 
-  right-after : (number count gap : ℕ) → number < length (entriesOf fields)
-      → Run (isFiller reference context fields) (λ number. getD (entryPlaces fields) number 0) 0 number count gap
-      → RightAfter reference context stored number count gap
-  right-after number count gap h run =
+  right-after : (number : ℕ) → number < length (entriesOf fields)
+      → Run (isFiller reference context fields) (offsetOfEntry stored) (letterOfEntry stored) 0 number
+      → RightAfter reference context stored number
+  right-after number h run =
       record {
         start = run .start;
+        count = run .count;
+        gap = run .gap;
+        rule = run .rule;
         counted = run .counted;
         fillers = run .fillers;
         first = λ e. omega (arith, run .first e);
@@ -124,9 +136,7 @@ module _ (bases : ℕ) (reference : List ℕ) (previous : ℕ) (codes : List ℕ
   placed-fillers =
       record {
         either = differs;
-        each = λ number h d.
-            let found = runs .each number h (no-filler number d) in
-            (found .0, found .1, found .2, right-after number (found .0) (found .1) h (found .3));
+        each = λ number h d. right-after number h (runs .each number h (no-filler number d));
         last = λ number e. differs number (omega arith) (runs .last number e);
       }
 

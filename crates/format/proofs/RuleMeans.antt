@@ -34,7 +34,7 @@ use Rattle.format.proofs.TestsMean.{equal-test}
 use Rattle.format.proofs.KindMeans.{kind, step-means, aligned-holds}
 use Rattle.format.proofs.FillerRuns.{count-of}
 use Rattle.format.proofs.FillersHold.{written-fillers}
-use Rattle.format.proofs.LoneDifferences.{lone-differences}
+use Rattle.format.proofs.FillerExamplesHold.{lone-differences}
 
 names-right : (input : EncodeInput) → (namesWrong input ≡ false)
     ↔ ((names : List (List ℕ)) × LentNames (length (input .ends)) (input .names) (input .nameEnds) names)

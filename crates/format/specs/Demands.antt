@@ -17,7 +17,7 @@ use lib.Dec.{leb, eqb}
 use Rattle.base.specs.Faults.{Fault, fault, NoneFits}
 use Rattle.base.specs.Answer.{firstNumber}
 use Rattle.base.specs.Paste.{pasted}
-use Rattle.base.specs.Lists.{member, total, placesFrom, All, Begins, Below, AllBytes}
+use Rattle.base.specs.Lists.{member, placesFrom, All, Begins, Below, AllBytes}
 use Rattle.dna.specs.Reference.{alphabet, referenceSizeWrong, ReferenceFits}
 use Rattle.dna.specs.Sizes.{lengthInvalid}
 use Rattle.dna.specs.Counts.{Counted, zeroCounts, recordCounts}
@@ -362,7 +362,8 @@ pub record Writes (bases : ℕ) (reference : List ℕ) (reads names : List (List
       → (divided .lengths ≡ map length reads)
       × (divided .division ≡ writtenDivision bases reference (codesOf reads) (candidatesOf input))
       × (divided .names ≡ names)
-  -- In each of its records each difference comes right after the fillers of its gap (02, Ticket 3).
+  -- In each of its records each difference comes right after the fillers of its gap, and the last
+  -- entry is a difference (02, Ticket 3).
   pub fillers : (divided : BlockDivision)
       → DividesBlock bases (blockOf bases reference input) divided
       → All (λ read. FillersHold reference (read .context) (read .piece .stored))

@@ -196,8 +196,8 @@ pub record RuleRight : Type 0 where
       ∷ (false, endsTA 8) ∷ (true, endsTA 3) ∷ (true, perfect 0) ∷ [])
   -- Reads of several kinds, byte for byte.
   pub block : blockOf 12 reference sevenReads ≡ sevenBlock
-  -- Fillers by the gap: none up to 63, one up to 126; a lone difference at 1953 takes the 31 entries
-  -- that a record can have, at 1954 one too many.
+  -- Fillers by the gap: none up to 63, one up to 126; 30 at 1953, with the difference the 31
+  -- entries that a record can have; 31 at 1954.
   pub fillers : map fillerCount (0 ∷ 1 ∷ 63 ∷ 64 ∷ 126 ∷ 127 ∷ 1953 ∷ 1954 ∷ [])
       ≡ 0 ∷ 0 ∷ 0 ∷ 1 ∷ 1 ∷ 2 ∷ 30 ∷ 31 ∷ []
   -- Steps up to 65,535.

@@ -15,6 +15,7 @@ pub mod EncodeAnswer
 pub mod Answered
 pub mod Meaning
 pub mod Fillers
+pub mod FillerExamples
 pub mod RuleMeaning
 pub mod Demands
 pub mod SpareBits

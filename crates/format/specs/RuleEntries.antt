@@ -16,9 +16,9 @@ pub record Gap : Type 0 where
   pub code : ℕ
 
 -- How many fillers a gap of d gets (02, Ticket 3): (d + 62) / 63, rounded down, less 1; none where
--- d is 0, since the subtraction stops there.
+-- d is 0, since the subtraction stops at 0.
 unfoldable pub fillerCount : (gap : ℕ) → ℕ
-fillerCount gap = (gap + 62) / maxEntryOffset - 1
+fillerCount gap = (gap + 62) / 63 - 1
 
 -- The entries of one gap from `place` on: its fillers, each with what the reference gives there,
 -- and the difference itself.

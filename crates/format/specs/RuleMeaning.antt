@@ -22,7 +22,8 @@ use Rattle.format.specs.RuleBlock.{storedFrom, allEqual, writtenHeader}
 use Rattle.format.specs.EncodeAnswer.{EncodeInput, readCountTooLarge}
 use Rattle.format.specs.EncodeAnswer.{candidateCountWrong, readEndsInvalid, letterInvalid}
 use Rattle.format.specs.EncodeAnswer.{namesWrong}
-use Rattle.format.specs.Fillers.{CountOf, FillerRule, LoneDifferences}
+use Rattle.format.specs.Fillers.{FillersOfGap, FillerRule}
+use Rattle.format.specs.FillerExamples.{LoneDifferences}
 use Rattle.tokens.specs.LentNames.{LentNames}
 
 -- The ends rise from 0 by 1 to 100,000, and the last is the letters' count (0 if no reads).
@@ -162,16 +163,18 @@ pub record RuleMeans : Type 0 where
   -- pos_t is set exactly where the step is 0 to 65,535.
   pub step : (previous position : ℕ) → (stepFits previous position ≡ true)
       ↔ ((previous ≤ position) × (position - previous ≤ 65_535))
-  -- Letters under N aren't compared; no other entry than a difference or a filler.
+  -- Letters under N aren't compared.
   pub differs : (expected : ℕ → ℕ) (codes : List ℕ) (k : ℕ)
       → (differsAt expected codes k ≡ true)
       ↔ ((getD codes k 0 ≡ 4 → ⊥) × (getD codes k 0 ≡ expected k → ⊥))
-  -- Fillers until 63 or less remains; by the rule (02, Ticket 3), as many.
+  -- Fillers until 63 or less remains. Their number is the rule's (02, Ticket 3).
   pub none : (gap : ℕ) → gap ≤ 63 → fillerCount gap ≡ 0
   pub more : (gap : ℕ) → 63 < gap → fillerCount gap ≡ suc (fillerCount (gap - 63))
-  pub rule : (gap : ℕ) → CountOf gap (fillerCount gap)
-  -- In a written record each difference comes right after that many fillers.
+  pub rule : (gap : ℕ) → FillersOfGap gap (fillerCount gap)
+  -- In a written record each difference comes right after that many fillers, and there is no other
+  -- entry.
   pub fillers : FillerRule
+  -- 01, Sums done by hand.
   pub lone : LoneDifferences
   -- Letters under N are stored as A in the ends.
   pub ends : (codes : List ℕ) (candidate : Candidate)
