@@ -3,15 +3,14 @@
 use mathlib.Core.Path.{_≡_, refl, sym, ap, _∙_}
 use Prim.Native.Nat.{ℕ, zero, suc, _+_, _-_, _*_, _≤_, _<_}
 use native.Mathlib.Omega.{arith}
-use mathlib.Core.Bool.{true, false}
-use mathlib.Core.List.{List, [], _∷_}
-use lib.ListN.{length, getD}
-use borrow.Author.Tests.{le-ltb}
+use mathlib.Core.Bool.{Bool, true, false}
+use mathlib.Core.Logic.{_⊎_}
+use mathlib.Core.List.{List, [], _∷_, _++_}
+use lib.ListN.{length, getD, replicate}
 use Rattle.base.specs.Lists.{build, part, any, placesWhere}
-use Rattle.base.proofs.ListLaws.{by-order, by-test}
+use Rattle.base.proofs.ListLaws.{by-order}
 use Rattle.base.proofs.BitLaws.{any-build}
 use Rattle.base.proofs.PlacesWhereLaws.{places-one}
-use Rattle.base.proofs.AnswerLaws.{cond-no}
 use Rattle.base.proofs.Tests.{absurd-test}
 use Rattle.dna.specs.Record.{ReadContext, StoredRecord}
 use Rattle.dna.specs.Alignment.{entriesOf}
@@ -21,15 +20,16 @@ use Rattle.dna.proofs.SumsHold.{computed}
 use Rattle.format.specs.RuleEntries.{Gap, fillerCount, entriesOfGaps, differsAt, gapsTo}
 use Rattle.format.specs.RuleEntries.{gapsOf}
 use Rattle.format.specs.RuleRecord.{Candidate, nOffsetsOf, alignedCount, expectedAt}
-use Rattle.format.specs.RuleRecord.{candidateGaps, candidateEntries, placeUsed, chooseRaw}
+use Rattle.format.specs.RuleRecord.{candidateGaps, candidateEntries, chooseAligned, chooseRaw}
 use Rattle.format.specs.RuleRecord.{choiceFor}
 use Rattle.format.specs.Fillers.{offsetOfEntry, letterOfEntry, FillersOfGap, RightAfter}
 use Rattle.format.specs.Fillers.{FillersHold}
+use Rattle.format.specs.Examples.{placeAt}
 use Rattle.format.specs.FillerExamples.{Lone, LoneDifferences, Broken, FillersBroken}
 use Rattle.format.proofs.WrittenEntries.{gap-fillers}
 use Rattle.format.proofs.WrittenLetters.{length-aligned}
-use Rattle.format.proofs.WrittenRecord.{used}
 use Rattle.format.proofs.FillerRuns.{length-fillers}
+use Rattle.format.proofs.RuleMeans.{rule-means}
 
 -- ---- Lone differences
 
@@ -60,31 +60,57 @@ lone-entries reference codes candidate place lone =
     (record { offset = place - 0 - 63 * fillerCount (place - 0); code = getD aligned place 0 } ∷ [])
     ∙ ap (λ (p : ℕ). fillerCount p + 1) whole
 
--- With 32 entries the place is not used.
+-- At 1953 the place can be used, at 1954 it cannot.
+lone-used : (bases : ℕ) (reference codes : List ℕ) (candidate : Candidate) → length (nOffsetsOf codes) ≤ 31
+    → (candidate .strand ≡ 1) ⊎ (candidate .strand ≡ 2) → candidate .position + alignedCount codes candidate ≤ bases
+    → Lone reference codes candidate 1953 → choiceFor bases reference codes candidate ≡ chooseAligned
+unfolding fillerCount alignedCount
+lone-used bases reference codes candidate few strand inside lone =
+    rule-means .choice bases reference codes candidate .aligned few
+    (record {
+      strand = strand;
+      clips = omega (arith, lone .inside);
+      inside = inside;
+      entries = omega (arith, lone-entries reference codes candidate 1953 lone);
+    })
+
 lone-raw : (bases : ℕ) (reference codes : List ℕ) (candidate : Candidate) → length (nOffsetsOf codes) ≤ 31
     → Lone reference codes candidate 1954 → choiceFor bases reference codes candidate ≡ chooseRaw
-unfolding choiceFor fillerCount
+unfolding fillerCount
 lone-raw bases reference codes candidate few lone =
-    let many : length (candidateEntries reference codes candidate) ≡ 32 = lone-entries reference codes candidate 1954 lone in
-    cond-no _ (le-ltb 31 (length (nOffsetsOf codes)) few)
-    (by-test (placeUsed bases reference codes candidate)
-    (λ t. absurd (omega (arith, used bases reference codes candidate t .few, many)))
-    (λ t. cond-no _ t refl))
+    rule-means .choice bases reference codes candidate .raw few
+    (λ holds. omega (arith, holds .entries, lone-entries reference codes candidate 1954 lone))
+
+-- A read of A with a last letter C, on a reference of A.
+lone-one : Lone (replicate 17 0) (replicate 64 0 ++ (1 ∷ [])) (placeAt 0 1) 64
+unfolding computed differsAt expectedAt alignedCount placeAt
+lone-one =
+    let codes : List ℕ = replicate 64 0 ++ (1 ∷ []) in
+    let differs : ℕ → Bool = differsAt (expectedAt (replicate 17 0) codes (placeAt 0 1)) codes in
+    record {
+      inside = omega arith;
+      alone = λ k h. (
+        λ t. by-order k 64 (λ low. absurd-test (sym t ∙ any-build differs 64 (λ j. j) refl k low)) (λ high. omega arith),
+        λ e. ap differs e,
+      );
+    }
 
 pub lone-differences : LoneDifferences
 unfolding fillerCount
 lone-differences =
     record {
+      one = lone-one;
       at-64 = λ reference codes candidate lone. lone-entries reference codes candidate 64 lone;
       at-127 = λ reference codes candidate lone. lone-entries reference codes candidate 127 lone;
       at-1953 = λ reference codes candidate lone. lone-entries reference codes candidate 1953 lone;
       at-1954 = λ reference codes candidate lone. lone-entries reference codes candidate 1954 lone;
+      used = lone-used;
       raw = lone-raw;
     }
 
 -- ---- Records that do not keep the promise
 
--- With no difference before it, an entry has as many fillers before it as there are entries.
+-- With no difference before it, an entry has as many fillers as there are entries before it.
 module _ (reference : List ℕ) (context : ReadContext) (stored : StoredRecord) (number : ℕ) where
   starts-first : (after : RightAfter reference context stored number) (start : ℕ) → after .start ≡ start
       → any (isDifference reference context stored) (build number (λ k. k)) ≡ false → start ≡ 0
@@ -116,11 +142,11 @@ fillers-two hold =
     let two : _≡_ {A = ℕ} 2 1 = first-fillers _ _ _ 2 hold (omega arith) refl refl .0 .some (omega arith) in
     omega (arith, two)
 
-fillers-odd : Broken [] (entry 1 1 ∷ entry 63 1 ∷ [])
+fillers-at-63 : Broken [] (entry 63 3 ∷ entry 0 0 ∷ [])
 unfolding computed
-fillers-odd hold =
-    let step : _≡_ {A = ℕ} 1 63 = first-fillers _ _ _ 1 hold (omega arith) refl refl .1 0 (omega arith) in
-    omega (arith, step)
+fillers-at-63 hold =
+    let one : _≡_ {A = ℕ} 1 0 = first-fillers _ _ _ 1 hold (omega arith) refl refl .0 .some (omega arith) in
+    omega (arith, one)
 
 fillers-at-0 : Broken [] (entry 0 0 ∷ entry 0 1 ∷ [])
 unfolding computed
@@ -128,10 +154,16 @@ fillers-at-0 hold =
     let one : _≡_ {A = ℕ} 1 0 = first-fillers _ _ _ 1 hold (omega arith) refl refl .0 .none refl in
     omega (arith, one)
 
--- Its run would begin after entry 1, which is no filler, and so with gap 64 and no filler.
-fillers-none : Broken [] (entry 0 1 ∷ entry 60 1 ∷ entry 64 1 ∷ [])
+fillers-none : Broken [] (entry 64 1 ∷ [])
 unfolding computed
 fillers-none hold =
+    let none : _≡_ {A = ℕ} 0 1 = first-fillers _ _ _ 0 hold (omega arith) refl refl .0 .some (omega arith) in
+    omega (arith, none)
+
+-- Its run would begin after entry 1, which is no filler, and so with gap 64 and no filler.
+fillers-later : Broken [] (entry 0 1 ∷ entry 60 1 ∷ entry 64 1 ∷ [])
+unfolding computed
+fillers-later hold =
     let after = hold .each 2 (omega arith) refl in
     by-order 1 (after .start)
     (λ above.
@@ -140,14 +172,22 @@ fillers-none hold =
     omega (arith, found, after .rule .some (omega (arith, found)), after .counted, start))
     (λ low. absurd-test (sym (after .fillers 1 low (omega arith) .0)))
 
+fillers-odd : Broken [] (entry 1 1 ∷ entry 63 1 ∷ [])
+unfolding computed
+fillers-odd hold =
+    let step : _≡_ {A = ℕ} 1 63 = first-fillers _ _ _ 1 hold (omega arith) refl refl .1 0 (omega arith) in
+    omega (arith, step)
+
 pub fillers-broken : FillersBroken
 unfolding computed
 fillers-broken =
     record {
       two-at-64 = fillers-two;
-      not-at-63 = fillers-odd;
-      at-0 = fillers-at-0;
+      one-at-63 = fillers-at-63;
+      one-at-0 = fillers-at-0;
       none-at-64 = fillers-none;
+      none-at-124 = fillers-later;
+      not-at-63 = fillers-odd;
       after-the-last = λ hold. absurd-test (sym (hold .last 1 refl));
       under-n = λ hold. absurd-test (sym (hold .either 0 (omega arith) refl));
     }

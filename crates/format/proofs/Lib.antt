@@ -23,6 +23,6 @@ pub mod TestsMean
 pub mod KindMeans
 pub mod FillerRuns
 pub mod FillersHold
-pub mod FillerExamplesHold
 pub mod RuleMeans
+pub mod FillerExamplesHold
 pub mod SpareBitsIgnored

@@ -34,7 +34,6 @@ use Rattle.format.proofs.TestsMean.{equal-test}
 use Rattle.format.proofs.KindMeans.{kind, step-means, aligned-holds}
 use Rattle.format.proofs.FillerRuns.{count-of}
 use Rattle.format.proofs.FillersHold.{written-fillers}
-use Rattle.format.proofs.FillerExamplesHold.{lone-differences}
 
 names-right : (input : EncodeInput) → (namesWrong input ≡ false)
     ↔ ((names : List (List ℕ)) × LentNames (length (input .ends)) (input .names) (input .nameEnds) names)
@@ -286,7 +285,6 @@ rule-means =
       more = λ gap large. omega arith;
       rule = count-of;
       fillers = written-fillers;
-      lone = lone-differences;
       ends = λ codes candidate few.
           ap (λ (from : ℕ). map withoutN (take (candidate .left) codes ++ drop from codes)) (let z : candidate .left + (length codes - (candidate .left + candidate .right)) ≡ length codes - candidate .right = omega arith in z);
       given = λ id time dnaSize namesSize sizes nSection lengths. (refl, refl);

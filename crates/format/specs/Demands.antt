@@ -362,8 +362,8 @@ pub record Writes (bases : ℕ) (reference : List ℕ) (reads names : List (List
       → (divided .lengths ≡ map length reads)
       × (divided .division ≡ writtenDivision bases reference (codesOf reads) (candidatesOf input))
       × (divided .names ≡ names)
-  -- In each of its records each difference comes right after the fillers of its gap, and the last
-  -- entry is a difference (02, Ticket 3).
+  -- In each of its records each entry is a filler or a difference, each difference comes right
+  -- after the fillers of its gap, and the last entry is a difference (02, Ticket 3).
   pub fillers : (divided : BlockDivision)
       → DividesBlock bases (blockOf bases reference input) divided
       → All (λ read. FillersHold reference (read .context) (read .piece .stored))

@@ -1,7 +1,7 @@
 -- The filler rule (02, Ticket 3), as a promise about written records: each difference comes right
 -- after exactly (d + 62) / 63, rounded down, less 1 fillers, where d is its gap, and after none
 -- where d is 0. Fillers and differences are what a reader finds them to be (01, Records), by the
--- entries and the reference, whoever wrote them. The proof is proofs/FillersHold.antt.
+-- record and the reference, whoever wrote it. The proof is proofs/FillersHold.antt.
 use Prim.Native.Nat.{ℕ, suc, _+_, _-_, _/_, _≤_, _<_}
 use mathlib.Core.Path.{_≡_}
 use mathlib.Core.Bool.{true, false}
@@ -26,9 +26,9 @@ pub record FillersOfGap (gap count : ℕ) : Type 0 where
   pub some : 1 ≤ gap → count ≡ (gap + 62) / 63 - 1
 
 -- Entry `number` comes right after as many fillers as its gap gets: the entries from `start` up to
--- the one before it are fillers, each 63 past the one before, and before them stands a difference,
--- or nothing. The gap is counted from that difference or, where there is none, from the first
--- aligned letter.
+-- the one before it are fillers, each with an offset of 63, and before them stands a difference, or
+-- nothing. The gap is counted from that difference or, where there is none, from the first aligned
+-- letter.
 pub record RightAfter (reference : List ℕ) (context : ReadContext) (stored : StoredRecord)
     (number : ℕ) : Type 0 where
   pub start : ℕ

@@ -15,8 +15,8 @@ pub mod EncodeAnswer
 pub mod Answered
 pub mod Meaning
 pub mod Fillers
-pub mod FillerExamples
 pub mod RuleMeaning
 pub mod Demands
 pub mod SpareBits
 pub mod Examples
+pub mod FillerExamples

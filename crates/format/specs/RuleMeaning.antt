@@ -23,7 +23,6 @@ use Rattle.format.specs.EncodeAnswer.{EncodeInput, readCountTooLarge}
 use Rattle.format.specs.EncodeAnswer.{candidateCountWrong, readEndsInvalid, letterInvalid}
 use Rattle.format.specs.EncodeAnswer.{namesWrong}
 use Rattle.format.specs.Fillers.{FillersOfGap, FillerRule}
-use Rattle.format.specs.FillerExamples.{LoneDifferences}
 use Rattle.tokens.specs.LentNames.{LentNames}
 
 -- The ends rise from 0 by 1 to 100,000, and the last is the letters' count (0 if no reads).
@@ -174,8 +173,6 @@ pub record RuleMeans : Type 0 where
   -- In a written record each difference comes right after that many fillers, and there is no other
   -- entry.
   pub fillers : FillerRule
-  -- 01, Sums done by hand.
-  pub lone : LoneDifferences
   -- Letters under N are stored as A in the ends.
   pub ends : (codes : List ℕ) (candidate : Candidate)
       → candidate .left + candidate .right < length codes
