@@ -173,20 +173,25 @@ writes bases reference reads names input fits lent w =
     let d : Divided bases reference reads names input = block-divided bases reference reads names input fits lent w in
     let zero′ : (out : List ℕ) → length (blockOf bases reference input) ≤ length out → eqb (encodeNumber bases reference input out) 0 ≡ true
     = λ out room. eq-eqb _ 0 (writable-zero bases reference reads names input out fits w room) in
+    let same : (divided : BlockDivision) → DividesBlock bases (blockOf bases reference input) divided
+    → (divided .lengths ≡ map length (codesOf reads))
+    × (divided .division ≡ writtenDivision bases reference (codesOf reads) (candidatesOf input))
+    × (divided .names ≡ names)
+    = λ divided e.
+    one-divided bases (blockOf bases reference input) divided (ruleDivided bases reference (codesOf reads) names (candidatesOf input))
+    (d .wellFormed) e (d .divides) in
     record {
       outcome = λ out room. cond-yes (refusal (encodeNumber bases reference input out) 0 0) (zero′ out room) refl;
       buffer = λ out room. cond-yes out (zero′ out room) refl;
       header = block-header bases reference reads names input fits lent w;
       wellFormed = d .wellFormed;
       division = λ divided e.
-          let same = one-divided bases (blockOf bases reference input) divided (ruleDivided bases reference (codesOf reads) names (candidatesOf input))
-          (d .wellFormed) e (d .divides) in
-          (same .0 ∙ codes-lengths reads, same .1, same .2);
+          let is = same divided e in
+          (is .0 ∙ codes-lengths reads, is .1, is .2);
       fillers = λ divided e.
-          let same = one-divided bases (blockOf bases reference input) divided (ruleDivided bases reference (codesOf reads) names (candidatesOf input))
-          (d .wellFormed) e (d .divides) in
+          let is = same divided e in
           subst (All (λ read. FillersHold reference (read .context) (read .piece .stored)))
-          (sym (ap₂ (readsOf bases) (same .0) (same .1)))
+          (sym (ap₂ (readsOf bases) (is .0) (is .1)))
           (rule-fillers bases reference (codesOf reads) (candidatesOf input) (rule-fits bases reference reads names input fits lent w .reads-fit));
       reads-back = λ rest buffers room. decodes-back bases reference reads names input rest buffers fits lent w room;
     }

@@ -23,9 +23,6 @@ lookup place [] k other = other
 lookup place (entry ∷ entries) k other =
     cond (eqb (place + entry .offset) k) (entry .code) (lookup (place + entry .offset) entries k other)
 
-offsetsOf : (entries : List Entry) → List ℕ
-offsetsOf entries = map (λ entry. entry .offset) entries
-
 -- It is what the list of places and the list of codes give.
 pub lookup-places : (place : ℕ) (entries : List Entry) (k other : ℕ)
     → cond (member k (placesFrom place (map (λ entry. entry .offset) entries)))
@@ -47,9 +44,6 @@ pub record Leaves (gap count : ℕ) : Type 0 where
 pub filler-leaves : (gap : ℕ) → Leaves gap (fillerCount gap)
 unfolding fillerCount
 filler-leaves gap = record { most = omega arith; least = omega arith }
-
-filler : (expected : ℕ → ℕ) (place j : ℕ) → Entry
-filler expected place j = record { offset = 63; code = expected (place + 63 * suc j) }
 
 -- So many fillers from a place on, and then other entries.
 unfoldable pub fillers : (n : ℕ) (expected : ℕ → ℕ) (place : ℕ) (rest : List Entry) → List Entry
