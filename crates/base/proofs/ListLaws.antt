@@ -4,12 +4,12 @@ use Prim.Native.Nat.{ℕ, zero, suc, _+_, _-_, _≤_, _<_}
 use native.Mathlib.Nat.{add-zero, not-suc-le-zero, le-of-suc-le-suc, lt-of-not-le}
 use native.Mathlib.Decide.{decLe}
 use native.Mathlib.Omega.{arith}
-use mathlib.Core.Bool.{Bool, true, false}
+use mathlib.Core.Bool.{Bool, true, false, cond}
 use mathlib.Core.List.{List, [], _∷_, _++_, map}
 use lib.ListN.{length, getD, take, drop, length-append, length-take, length-drop, List·getD-append}
 use lib.ListN.{List·getD-eq-default}
 use lib.Seq.{getD-append-add, getD-take, getD-drop}
-use Rattle.base.specs.Lists.{build, Below, All}
+use Rattle.base.specs.Lists.{build, countTrue, Below, All}
 
 -- Two numbers are in one order or the other.
 pub by-order {ℓ} : {X : Type ℓ} (a b : ℕ) → (a < b → X) → (b ≤ a → X) → X
@@ -77,6 +77,13 @@ pub getD-inside {ℓ} : {A : Type ℓ} (list : List A) (k : ℕ) (d e : A) → k
 getD-inside [] k d e h = absurd (not-suc-le-zero h)
 getD-inside (x ∷ xs) zero d e h = refl
 getD-inside (x ∷ xs) (suc k) d e h = getD-inside xs k d e (le-of-suc-le-suc h)
+
+-- ---- countTrue
+
+pub countTrue-cons : (test : Bool) (tests : List Bool) → countTrue (test ∷ tests) ≡ cond test 1 0 + countTrue tests
+unfolding countTrue
+countTrue-cons true tests = omega arith
+countTrue-cons false tests = omega arith
 
 -- ---- Below
 

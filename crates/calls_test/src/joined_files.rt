@@ -1,7 +1,7 @@
 // Files: the specification's block of the listing (132 bytes), the block of groups (237 bytes) and
 // a block without reads (121 bytes), one after the other. They end at 132, 369 and 490; their
-// counts are 1 4 1 1, 17 77 5 3 and 0 0 0 0. A file that ends one byte before a block's end earns 8
-// there, or 2 where fewer than 121 bytes are left, as one byte after it.
+// counts are 1 4 1 1 0, 17 77 5 3 0 and 0 0 0 0 0. A file that ends one byte before a block's end
+// earns 8 there, or 2 where fewer than 121 bytes are left, as one byte after it.
 use crate::block::block_buffer;
 use crate::block::equal_reads;
 use crate::block::put_bytes_at;

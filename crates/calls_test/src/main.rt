@@ -4,10 +4,10 @@
 //
 // A block's line: its name, the answer of decode, that of validate_block, and both lent buffers
 // after decode, or `untouched`. An answer is `accepted` with the block's length and its reads,
-// letters, entries and differences, or `refused` with the number and the read. Before the call
+// letters, entries, differences and top, or `refused` with the number and the read. Before the call
 // every letter is `.` and every end 99.
 //
-// A file's line: its name and `accepted` with the blocks and the four sums, or `refused` with the
+// A file's line: its name and `accepted` with the blocks and the five sums, or `refused` with the
 // number, the block and the read.
 mod block;
 mod damage;

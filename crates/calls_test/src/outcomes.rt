@@ -37,6 +37,7 @@ fn put_accepted(size: u64, counts: Counts) {
     put_number(counts.letters);
     put_number(counts.entries);
     put_number(counts.differences);
+    put_number(counts.top);
 }
 
 fn put_refused(number: u32) {

@@ -18,7 +18,8 @@ slots outcome =
     ∷ outcome .counts .letters
     ∷ outcome .counts .entries
     ∷ outcome .counts .differences
-    ∷ replicate 8 0
+    ∷ outcome .counts .top
+    ∷ replicate 7 0
 
 -- Those of an accepted block or file, for an inner function; `size` is the length of the one or the
 -- blocks of the other.
@@ -32,7 +33,8 @@ acceptedSlots size counts =
     ∷ counts .letters
     ∷ counts .entries
     ∷ counts .differences
-    ∷ replicate 8 0
+    ∷ counts .top
+    ∷ replicate 7 0
 
 -- Where a section stands: nothing is refused.
 unfoldable pub sectionSlots : (span : Span) → List ℕ

@@ -156,7 +156,7 @@ pub extern "C" fn ora_section(input: &[u8], number: u64, answer: &mut [u64; 16])
         × (now (answer .exit) ≡ sectionSlots (spanAnswer (now (input .entry)) number)) ⌝ }
 {
     let span = ora::section_span(input, number);
-    *answer = eight_slots(0, 0, 0, span.offset, span.size, 0, 0, 0);
+    *answer = first_slots(0, 0, 0, span.offset, span.size, 0, 0, 0, 0);
     0
 }
 
@@ -218,7 +218,7 @@ fn encode_slots(outcome: EncodeOutcome) -> [u64; 16]
     ensures { λ r. ⌜ r ≡ slots (outcomeOfEncode outcome) ⌝ }
 {
     match outcome {
-        EncodeOutcome::Written(bytes) => eight_slots(0, 0, 0, bytes, 0, 0, 0, 0),
+        EncodeOutcome::Written(bytes) => first_slots(0, 0, 0, bytes, 0, 0, 0, 0, 0),
         EncodeOutcome::Refused(number) => refused_slots(number, 0, 0),
     }
 }
@@ -236,7 +236,7 @@ fn encode_number(outcome: EncodeOutcome) -> u64
 fn accepted_slots(size: u64, counts: Counts) -> [u64; 16]
     ensures { λ r. ⌜ r ≡ acceptedSlots size (countedOf counts) ⌝ }
 {
-    eight_slots(
+    first_slots(
         0,
         0,
         0,
@@ -245,6 +245,7 @@ fn accepted_slots(size: u64, counts: Counts) -> [u64; 16]
         counts.letters,
         counts.entries,
         counts.differences,
+        counts.top,
     )
 }
 
@@ -252,12 +253,12 @@ fn accepted_slots(size: u64, counts: Counts) -> [u64; 16]
 fn refused_slots(number: u32, block: u64, read: u64) -> [u64; 16]
     ensures { λ r. ⌜ r ≡ slots (refusal number block read) ⌝ }
 {
-    eight_slots(wide64(number), block, read, 0, 0, 0, 0, 0)
+    first_slots(wide64(number), block, read, 0, 0, 0, 0, 0, 0)
 }
 
-// The first eight slots; the others are 0.
-fn eight_slots(a: u64, b: u64, c: u64, d: u64, e: u64, f: u64, g: u64, h: u64) -> [u64; 16]
-    ensures { λ r. ⌜ r ≡ a ∷ b ∷ c ∷ d ∷ e ∷ f ∷ g ∷ h ∷ replicate 8 0 ⌝ }
+// The slots that are ever used; the others are 0.
+fn first_slots(a: u64, b: u64, c: u64, d: u64, e: u64, f: u64, g: u64, h: u64, i: u64) -> [u64; 16]
+    ensures { λ r. ⌜ r ≡ a ∷ b ∷ c ∷ d ∷ e ∷ f ∷ g ∷ h ∷ i ∷ replicate 7 0 ⌝ }
 {
-    [a, b, c, d, e, f, g, h, 0, 0, 0, 0, 0, 0, 0, 0]
+    [a, b, c, d, e, f, g, h, i, 0, 0, 0, 0, 0, 0, 0]
 }

@@ -1,5 +1,6 @@
 // Which record the fixed rule makes of a read (01, The writer's fixed rule): more than 31 N, raw4;
 // the candidate's place where it is used; else raw. The contract cites specs/Choice.antt.
+use dna::MAX_ENTRIES;
 use dna::Placement;
 use dna::Record;
 use dna::Strand;
@@ -27,10 +28,8 @@ ghost use Rattle.mismatches.specs.Entries.{EntriesPut};
 ghost use Rattle.record_writer.specs.Chosen.{placementOf, alignedRecord};
 ghost use Rattle.choices.specs.Choice.{candidateOf, placeFits, ChosenByRule};
 
-// The most positions that an N list may have, and the most entries that a record holds.
+// The most positions that an N list may have.
 const MAX_N_POSITIONS: usize = 31;
-
-const MAX_ENTRIES: usize = 31;
 
 // A record, how many entries it has, and how many letters of its read are N.
 pub struct Chosen {

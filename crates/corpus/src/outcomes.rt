@@ -1,5 +1,5 @@
-// The nine columns of an outcome (rust/second/CORPUS.md): number, block, read, blocks, length, and
-// the four counts.
+// The ten columns of an outcome (rust/second/CORPUS.md): number, block, read, blocks, length, and
+// the five counts.
 use crate::lines::put_column;
 use dna::Counts;
 use format::BlockOutcome;
@@ -42,6 +42,7 @@ fn no_counts() -> Counts {
         letters: 0,
         entries: 0,
         differences: 0,
+        top: 0,
     }
 }
 
@@ -55,4 +56,5 @@ fn put_columns(number: u32, block: u64, read: u64, blocks: u64, bytes: u64, coun
     put_column(counts.letters);
     put_column(counts.entries);
     put_column(counts.differences);
+    put_column(counts.top);
 }

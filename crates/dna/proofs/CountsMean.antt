@@ -1,18 +1,18 @@
 -- A record's counts are those of what is printed; counts added one after the other are the total of
 -- each count by itself. Assumes nothing.
 use mathlib.Core.Path.{_≡_, refl, sym, ap, _∙_}
-use Prim.Native.Nat.{ℕ, zero, suc, _+_, _<_}
+use Prim.Native.Nat.{ℕ, zero, suc, _+_, _≤_, _<_}
 use native.Mathlib.Nat.{not-suc-le-zero}
 use native.Mathlib.Omega.{arith}
-use mathlib.Core.Bool.{true, false, not}
+use mathlib.Core.Bool.{Bool, true, false, not, cond}
 use mathlib.Core.Logic.{_↔_}
 use mathlib.Core.List.{List, [], _∷_, _++_, map}
 use lib.ListN.{length, getD, length-map}
 use lib.Dec.{eqb}
-use borrow.Author.Tests.{eqb-false, ne-eqb}
-use Rattle.base.specs.Lists.{indexOf, total, All}
+use borrow.Author.Tests.{eqb-false, eq-eqb, ne-eqb}
+use Rattle.base.specs.Lists.{indexOf, countTrue, total, All}
 use Rattle.base.specs.Faults.{NoneFits}
-use Rattle.base.proofs.ListLaws.{by-test, length-build, getD-build}
+use Rattle.base.proofs.ListLaws.{by-test, length-build, getD-build, countTrue-cons}
 use Rattle.base.proofs.Tests.{and-both, both-and, not-true, false-not, neither-or}
 use Rattle.base.proofs.AnswerLaws.{cond-yes, cond-no}
 use Rattle.dna.specs.Reference.{strandBase, alphabet, letterOfCode}
@@ -23,7 +23,8 @@ use Rattle.dna.specs.Alignment.{referenceIndex, entryPlaces}
 use Rattle.dna.specs.RecordFaults.{entryOffsetInvalid, recordFaults}
 use Rattle.dna.specs.Letters.{Cause, entryCode, fieldsCause, causeAt, codeOf, recordLetters}
 use Rattle.dna.specs.Counts.{Counted, plus, sumCounts, isFiller, isUnderN, isDifference}
-use Rattle.dna.specs.Counts.{recordCounts}
+use Rattle.dna.specs.Counts.{topOf, recordCounts}
+use Rattle.dna.specs.Division.{Division, Read, readsOf, divisionCounts}
 use Rattle.dna.specs.Rules.{RulesHold, ClipsHold, CountsHold, totals, exact}
 use Rattle.dna.specs.Rules.{printedAt, givenAt}
 use Rattle.dna.proofs.ReferenceLaws.{strandBase-below}
@@ -167,6 +168,25 @@ module _ (reference : List ℕ) (context : ReadContext) (stored : StoredRecord)
         (false-not (isUnderN stored number) t)),
   )
 
+-- No record has more than 31 entries.
+few-entries : (context : ReadContext) (fields : RecordFields) → FieldsFit context fields
+    → length (entriesOf fields) ≤ 31
+unfolding entriesOf
+few-entries context (perfect field) fits = omega arith
+few-entries context (global field entries) fits = fits .count
+few-entries context (local field entries left right clipped) fits = fits .count
+few-entries context (raw letters) fits = omega arith
+few-entries context (raw4 letters) fits = omega arith
+
+-- The top, by the number of entries.
+pub top-of-31 : (entries : ℕ) → entries ≡ 31 → topOf entries ≡ 1
+unfolding topOf
+top-of-31 entries e = cond-yes _ (eq-eqb entries 31 e) refl
+
+pub top-of-others : (entries : ℕ) → (entries ≡ 31 → ⊥) → topOf entries ≡ 0
+unfolding topOf
+top-of-others entries other = cond-no _ (ne-eqb entries 31 other) refl
+
 -- The counts of a record that is accepted are those of what is printed.
 pub counts-mean : (reference : List ℕ) (context : ReadContext) (stored : StoredRecord)
     → RecordFits context stored → NoneFits (recordFaults context stored)
@@ -179,20 +199,45 @@ counts-mean reference context stored fits none =
       entries = refl;
       differences = refl;
       each = difference-means reference context stored fits (rules-mean context stored .0 none);
+      at-top = top-of-31 (length (entriesOf (stored .fields)));
+      below-top = top-of-others (length (entriesOf (stored .fields)));
+      most = few-entries context (stored .fields) (fits .fields);
     }
 
 -- ---- Sums
 
-pub sum-totals : (counts : List Counted) → sumCounts counts ≡ totals exact counts
+sum-totals : (counts : List Counted) → sumCounts counts ≡ totals exact counts
 unfolding sumCounts plus total
 sum-totals [] = refl
 sum-totals (c ∷ counts) = ap (plus c) (sum-totals counts)
 
-total-append : (f : Counted → ℕ) (front back : List Counted)
+-- The counts of a division are the totals over its reads.
+pub division-totals : (reference : List ℕ) (bases : ℕ) (lengths : List ℕ) (division : Division)
+    → divisionCounts reference bases lengths division
+    ≡ totals exact
+    (map (λ read. recordCounts reference (read .context) (read .piece .stored)) (readsOf bases lengths division))
+unfolding divisionCounts
+division-totals reference bases lengths division =
+    sum-totals
+    (map (λ read. recordCounts reference (read .context) (read .piece .stored)) (readsOf bases lengths division))
+
+pub total-append : (f : Counted → ℕ) (front back : List Counted)
     → total (map f (front ++ back)) ≡ total (map f front) + total (map f back)
 unfolding total
 total-append f [] back = omega arith
 total-append f (c ∷ front) back = omega (arith, total-append f front back)
+
+-- The total of top is how many reads have a record with exactly 31 entries.
+pub total-top : (reference : List ℕ) (reads : List Read)
+    → total
+    (map (λ c. c .top) (map (λ read. recordCounts reference (read .context) (read .piece .stored)) reads))
+    ≡ countTrue (map (λ read. eqb (length (entriesOf (read .piece .stored .fields))) 31) reads)
+unfolding total recordCounts topOf countTrue
+total-top reference [] = refl
+total-top reference (read ∷ reads) =
+    let at-top : Bool = eqb (length (entriesOf (read .piece .stored .fields))) 31 in
+    ap (λ (n : ℕ). cond at-top 1 0 + n) (total-top reference reads)
+    ∙ sym (countTrue-cons at-top (map (λ read′. eqb (length (entriesOf (read′ .piece .stored .fields))) 31) reads))
 
 -- Totals of two lists, added.
 pub plus-totals : (front back : List Counted) → plus (totals exact front) (totals exact back) ≡ totals exact (front ++ back)
@@ -204,4 +249,5 @@ plus-totals front back =
       letters = sym (total-append (λ c. c .letters) front back) i;
       entries = sym (total-append (λ c. c .entries) front back) i;
       differences = sym (total-append (λ c. c .differences) front back) i;
+      top = sym (total-append (λ c. c .top) front back) i;
     }

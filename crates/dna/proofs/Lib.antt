@@ -1,6 +1,7 @@
 pub mod RangeTests
 pub mod SumsHold
 pub mod SumsAnsweredHold
+pub mod TopExampleHolds
 pub mod OffsetLaws
 pub mod EntryLaws
 pub mod SizeLaws
@@ -25,5 +26,6 @@ pub mod StepsMean
 pub mod FirstFault
 pub mod RefusedExactly
 pub mod CountsMean
+pub mod PlusLaws
 pub mod NumbersMean
 pub mod WordsAt

@@ -28,7 +28,8 @@ use Rattle.dna.specs.RecordFaults.{raw4BitWrong, nCountInvalid, nListInv
 use Rattle.dna.specs.RecordFaults.{recordFaults}
 use Rattle.dna.specs.Letters.{alignedCause, fieldsCause, causeAt, packedCodes, codeOf}
 use Rattle.dna.specs.Letters.{recordLetters}
-use Rattle.dna.specs.Counts.{plus, sumCounts, isFiller, isUnderN, isDifference, recordCounts}
+use Rattle.dna.specs.Counts.{plus, sumCounts, isFiller, isUnderN, isDifference, topOf}
+use Rattle.dna.specs.Counts.{recordCounts}
 use Rattle.dna.specs.Division.{flagsAt, groupBytes, divisionBytes, contextOf, groupSlots}
 use Rattle.dna.specs.Division.{slots, readsFrom, readsOf, groupBitStray, Divides}
 use Rattle.dna.specs.Division.{divisionLetters, divisionCounts}
@@ -49,7 +50,7 @@ unfolding build any member indexOf countTrue placesFrom flatMap
     entryOffsetInvalid baseCodeInvalid paddingNonzero raw4BitWrong nCountInvalid nListInvalid
     fieldFaults recordFaults
     alignedCause fieldsCause causeAt packedCodes codeOf recordLetters
-    plus sumCounts isFiller isUnderN isDifference recordCounts
+    plus sumCounts isFiller isUnderN isDifference topOf recordCounts
     flagsAt groupBytes divisionBytes contextOf groupSlots slots readsFrom readsOf groupBitStray
     divisionLetters divisionCounts
     reference packed entry rows fitting oneRead

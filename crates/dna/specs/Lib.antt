@@ -15,3 +15,4 @@ pub mod Walk
 pub mod FirstFault
 pub mod SizesAt
 pub mod SumsAnswered
+pub mod TopExample

@@ -196,7 +196,7 @@ givenAt reference context fields number =
     (referenceIndex context fields (getD (entryPlaces fields) number 0)))
 
 -- The counts of a record that is accepted: one read, its letters, its entries, and of these the
--- differences: what is printed there is neither N nor what the reference gives.
+-- differences: what is printed there is neither N nor what the reference gives; and top.
 pub record CountsHold (reference : List ℕ) (context : ReadContext) (stored : StoredRecord)
     : Type 0 where
   pub reads : recordCounts reference context stored .reads ≡ 1
@@ -212,6 +212,13 @@ pub record CountsHold (reference : List ℕ) (context : ReadContext) (stored : S
       ↔ ((printedAt reference context stored number ≡ 78 → ⊥)
       × (printedAt reference context stored number
       ≡ givenAt reference context (stored .fields) number → ⊥))
+  -- 02, Ticket 4: top is 1 where the record has exactly 31 entries, fillers and entries under an N
+  -- among them; else it is 0. No record has more.
+  pub at-top : length (entriesOf (stored .fields)) ≡ 31
+      → recordCounts reference context stored .top ≡ 1
+  pub below-top : (length (entriesOf (stored .fields)) ≡ 31 → ⊥)
+      → recordCounts reference context stored .top ≡ 0
+  pub most : length (entriesOf (stored .fields)) ≤ 31
 
 -- Each count is the total of that count over a list, as `by` says: exact, or
 -- as a file takes it.
@@ -222,6 +229,7 @@ totals by counts =
       letters = by (total (map (λ c. c .letters) counts));
       entries = by (total (map (λ c. c .entries) counts));
       differences = by (total (map (λ c. c .differences) counts));
+      top = by (total (map (λ c. c .top) counts));
     }
 
 abbrev pub exact : (number : ℕ) → ℕ

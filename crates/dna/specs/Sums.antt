@@ -148,7 +148,13 @@ RecordRight readLength section stored (letters given entries differences) =
     Divides 12 (readLength ∷ []) (getD section 2 0 ∷ []) section (oneRead section stored)
     × (divisionLetters reference 12 (readLength ∷ []) (oneRead section stored) ≡ given ∷ [])
     × (divisionCounts reference 12 (readLength ∷ []) (oneRead section stored)
-    ≡ record { reads = 1; letters = readLength; entries = entries; differences = differences })
+    ≡ record {
+      reads = 1;
+      letters = readLength;
+      entries = entries;
+      differences = differences;
+      top = 0;
+    })
 RecordRight readLength section stored (refused number) =
     let context : ReadContext = contextOf 12 (flagsAt section 0) 0 0 readLength in
     (divisionBytes (oneRead section stored) ≡ section)

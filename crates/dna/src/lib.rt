@@ -30,10 +30,14 @@ pub enum Record {
     Raw4,
 }
 
-// The counts of a block or of a file (01: counts of a block).
+// The most entries that a record has, as many as the count of its flag byte can say.
+pub const MAX_ENTRIES: usize = 31;
+
+// The counts of a block or of a file (01: counts of a block; the last is that of 02, Ticket 4).
 pub struct Counts {
     pub reads: u64,
     pub letters: u64,
     pub entries: u64,
     pub differences: u64,
+    pub top: u64,
 }

@@ -63,6 +63,7 @@ fn put_block(bases: u64, reference: &[u8], bytes: u64, out: &[u8]) {
             put_number(counts.letters);
             put_number(counts.entries);
             put_number(counts.differences);
+            put_number(counts.top);
         }
         BlockOutcome::Refused(number, read) => {
             put_text(b" refused");

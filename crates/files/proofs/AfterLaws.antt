@@ -13,6 +13,7 @@ use Rattle.base.proofs.AnswerLaws.{andThen-found, andThen-stops, refusedAs-foun
 use Rattle.base.proofs.AnswerLaws.{Refuses, refuses-with}
 use Rattle.dna.specs.Reference.{referenceSizeWrong}
 use Rattle.dna.specs.Counts.{Counted, zeroCounts, plus, sumCounts}
+use Rattle.dna.proofs.PlusLaws.{none-plus, plus-none}
 use Rattle.dna.specs.Walk.{ReadRefusal, Walk, ofRead}
 use Rattle.format.specs.Header.{headerOf, readCount}
 use Rattle.format.specs.WellFormed.{BlockDivision}
@@ -109,22 +110,12 @@ refused-number bases reference input number read e =
 
 -- ---- The file
 
-plus-zero : (counts : Counted) → counts ≡ plus zeroCounts counts
-unfolding plus
-plus-zero counts =
-    λ i. record {
-      reads = sym (zero-add (counts .reads)) i;
-      letters = sym (zero-add (counts .letters)) i;
-      entries = sym (zero-add (counts .entries)) i;
-      differences = sym (zero-add (counts .differences)) i;
-    }
-
 none-behind : (bases : ℕ) (reference : List ℕ) (answer : Answer BlockRefusal (List BlockDivision))
     → fileOutcome reference bases answer ≡ outcomeAfter reference bases 0 zeroCounts answer
 unfolding fileOutcome outcomeAfter
 none-behind bases reference (found ds next) =
     ap₂ acceptedFile (sym (zero-add (length ds)))
-    (ap modulo64 (plus-zero (fileCounts reference bases ds)))
+    (ap modulo64 (sym (none-plus (fileCounts reference bases ds))))
 none-behind bases reference (refused why) =
     ap (λ (block : ℕ). refusal (why .number) block (why .read)) (sym (zero-add (why .block)))
 
@@ -150,6 +141,7 @@ wrapped-plus a b c =
       letters = one (a .letters) (b .letters) (c .letters) i;
       entries = one (a .entries) (b .entries) (c .entries) i;
       differences = one (a .differences) (b .differences) (c .differences) i;
+      top = one (a .top) (b .top) (c .top) i;
     }
 
 one-more : (bases : ℕ) (reference : List ℕ) (blocks : ℕ) (counts : Counted)
@@ -202,11 +194,4 @@ pub after-end : (bases : ℕ) (reference : List ℕ) (most blocks : ℕ) (counts
 unfolding outcomeAfter fileCounts sumCounts plus
 after-end bases reference most blocks counts =
     ap (outcomeAfter reference bases blocks counts) (blocks-none most bases reference)
-    ∙ ap₂ acceptedFile (add-zero blocks)
-    (ap modulo64
-    (λ i. record {
-      reads = add-zero (counts .reads) i;
-      letters = add-zero (counts .letters) i;
-      entries = add-zero (counts .entries) i;
-      differences = add-zero (counts .differences) i;
-    }))
+    ∙ ap₂ acceptedFile (add-zero blocks) (ap modulo64 (plus-none counts))

@@ -71,6 +71,7 @@ wrapped-twice a b =
       letters = one (plus a b .letters) i;
       entries = one (plus a b .entries) i;
       differences = one (plus a b .differences) i;
+      top = one (plus a b .top) i;
     }
 
 module _ {bases : ℕ} {reference file : List ℕ} {at blocks : ℕ} {counts : Counted}

@@ -55,6 +55,7 @@ fn no_counts() -> Counts
         letters: 0,
         entries: 0,
         differences: 0,
+        top: 0,
     }
 }
 
@@ -67,5 +68,6 @@ fn wrapping_plus(a: Counts, b: Counts) -> Counts
         letters: wrapping_add_u64(a.letters, b.letters),
         entries: wrapping_add_u64(a.entries, b.entries),
         differences: wrapping_add_u64(a.differences, b.differences),
+        top: wrapping_add_u64(a.top, b.top),
     }
 }

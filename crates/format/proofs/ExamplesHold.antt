@@ -7,6 +7,8 @@ use Rattle.base.specs.Numbers.{signed, nonNegative}
 use Rattle.base.specs.Paste.{pasted}
 use Rattle.base.proofs.Tests.{belowTest, test-below}
 use Rattle.dna.specs.SizesAt.{fixedLengths, lengthsGiven}
+use Rattle.dna.specs.TopExample.{fortyBases, topLengths, topNSection, fullBytes, almostBytes}
+use Rattle.dna.specs.TopExample.{bareBytes, topSection}
 use Rattle.dna.specs.Division.{readEnds}
 use Rattle.dna.proofs.SumsHold.{computed}
 use Rattle.dna.proofs.SumsAnsweredHold.{walking}
@@ -23,7 +25,7 @@ use Rattle.format.specs.Joined.{blockReads, blockCounts, fileReads, file
 use Rattle.format.specs.Outcome.{modulo64}
 use Rattle.format.specs.BlockAnswer.{headerRefused, idAnswer, lengthsAnswer, dnaTrailing}
 use Rattle.format.specs.BlockAnswer.{dnaAnswer, namesAnswer, blockAnswer}
-use Rattle.format.specs.BlockAnswer.{blockOutcome, capacityTooSmall}
+use Rattle.format.specs.BlockAnswer.{blockOutcome, validatedBlock, capacityTooSmall}
 use Rattle.format.specs.BlockAnswer.{decodeAnswer, decoded, buffersAfter, decodedBuffers}
 use Rattle.format.specs.FileAnswer.{inFirst, inLater, blocksAnswer, fileAnswer, fileOutcome}
 use Rattle.format.specs.FileAnswer.{validated}
@@ -39,13 +41,14 @@ use Rattle.format.specs.RuleBlock.{headerWith, writtenHeader, writtenBlo
 use Rattle.format.specs.EncodeAnswer.{readsOfInput, candidatesOf, blockOf}
 use Rattle.format.specs.Examples.{fifthRow, blockWith, listingBlock, leftOverBlock}
 use Rattle.format.specs.Examples.{listingDivided, smallBuffers, ListingRight}
-use Rattle.format.specs.Examples.{longReference, shifted}
+use Rattle.format.specs.Examples.{topBlock, TopBlockRight}
+use Rattle.format.specs.Examples.{longReference, shifted, wideReference, fullRead}
 use Rattle.format.specs.Examples.{turnedRead, placeAt, clippedAt, endsTA, sevenReads}
 use Rattle.format.specs.Examples.{sevenBlock, RuleRight}
 
 -- All that a block's answer computes with: to unfold this is to unfold each.
 unfoldable answering : Unit {0}
-unfolding walking total signed nonNegative pasted readEnds fixedLengths lengthsGiven headerOf flagSet readCount sectionLengths sectionStart sectionLength sectionOf blockLength signedBelow signedOutside headerTruncated magicWrong versionUnsupported headerLengthTooSmall flagUnsupported readCountOutOfRange sectionsTruncated tableFaults headerFaults dnaSizeWrong nSectionWrong lengthFaults blockReads blockCounts fileReads fileCounts modulo64 headerRefused idAnswer lengthsAnswer dnaTrailing dnaAnswer namesAnswer blockAnswer blockOutcome capacityTooSmall decodeAnswer decoded buffersAfter decodedBuffers inFirst inLater blocksAnswer fileAnswer fileOutcome validated flatten fifthRow blockWith listingBlock leftOverBlock listingDivided smallBuffers
+unfolding walking total signed nonNegative pasted readEnds fixedLengths lengthsGiven headerOf flagSet readCount sectionLengths sectionStart sectionLength sectionOf blockLength signedBelow signedOutside headerTruncated magicWrong versionUnsupported headerLengthTooSmall flagUnsupported readCountOutOfRange sectionsTruncated tableFaults headerFaults dnaSizeWrong nSectionWrong lengthFaults blockReads blockCounts fileReads fileCounts modulo64 headerRefused idAnswer lengthsAnswer dnaTrailing dnaAnswer namesAnswer blockAnswer blockOutcome capacityTooSmall decodeAnswer decoded buffersAfter decodedBuffers inFirst inLater blocksAnswer fileAnswer fileOutcome validated flatten fifthRow blockWith listingBlock leftOverBlock listingDivided smallBuffers topBlock
 answering = tt
 
 -- 01's listing block is well-formed and decodes as its listing says.
@@ -98,13 +101,19 @@ listing-right =
       left-over = refl;
     }
 
+-- One read of the block is at the top, and two of a file of it twice.
+pub top-block-right : TopBlockRight
+unfolding answering validatedBlock fortyBases topLengths topNSection fullBytes almostBytes bareBytes topSection
+top-block-right = record { alone = refl; twice = refl; refused = refl }
+
 -- All that the fixed rule computes with.
 unfoldable writing : Unit {0}
-unfolding computed naming keep placesWhere stepsFrom total flatten nOffsetsOf fillerCount gapEntries entriesOfGaps differsAt gapsTo gapsOf padded withoutN alignedCount expectedAt candidateGaps candidateEntries clippedCodes placeUsed storedPosition stepFits fieldFor alignedFields choiceFor isPerfect writtenAs written writtenFrom codeOfLetter writtenGroup writtenDivision writtenNSection storedFrom allEqual writtenSizes int32Bytes headerBytes headerWith writtenHeader writtenBlock ruleBlock readsOfInput candidatesOf blockOf longReference shifted turnedRead placeAt clippedAt endsTA sevenReads sevenBlock
+unfolding computed naming keep placesWhere stepsFrom total flatten nOffsetsOf fillerCount gapEntries entriesOfGaps differsAt gapsTo gapsOf padded withoutN alignedCount expectedAt candidateGaps candidateEntries clippedCodes placeUsed storedPosition stepFits fieldFor alignedFields choiceFor isPerfect writtenAs written writtenFrom codeOfLetter writtenGroup writtenDivision writtenNSection storedFrom allEqual writtenSizes int32Bytes headerBytes headerWith writtenHeader writtenBlock ruleBlock readsOfInput candidatesOf blockOf longReference shifted wideReference fullRead turnedRead placeAt clippedAt endsTA sevenReads sevenBlock
 writing = tt
 
 -- The fixed rule writes 31 entries, puts 32 into a raw record, fills on the strand of the read, stores a reverse read with
--- ends where its stretch ends, makes this block of seven reads, and gives each gap its fillers.
+-- ends where its stretch ends, makes this block of seven reads, gives each gap its fillers, and makes one record of 31
+-- entries, of which two are fillers.
 pub rule-right : RuleRight
 unfolding writing
 rule-right =
@@ -113,6 +122,8 @@ rule-right =
       reverse-clipped = refl;
       block = refl;
       fillers = refl;
+      full = refl;
+      top = refl;
       step-65535 = refl;
       step-65536 = refl;
     }

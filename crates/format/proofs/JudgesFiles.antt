@@ -3,7 +3,8 @@ pub mod Blocks
 pub mod Prefixes
 pub mod Reads
 use mathlib.Core.Path.{sym, ap, _∙_}
-use Rattle.format.specs.Demands.{Demand3}
+use Rattle.format.specs.Demands.{wrapped, Demand3}
+use Rattle.format.proofs.CountLaws.{file-top}
 use Blocks.{file-answer, FileFound, file-found, one-list, own-divisions}
 use Prefixes.{one-divided, prefix}
 use Reads.{file-reads}
@@ -23,6 +24,9 @@ demand-3 bases reference fits =
       );
       one-list = λ file bs cs wfs wgs j k. one-list bases bs cs wfs wgs (j ∙ sym k);
       answer = λ file blocks ds wfs j d. file-answer bases reference file blocks ds fits wfs j d;
+      top = λ file blocks ds wfs j d.
+          ap (λ o. o .counts .top) (file-answer bases reference file blocks ds fits wfs j d)
+          ∙ ap wrapped (file-top bases reference ds);
       reads = λ blocks ds wfs d. file-reads bases reference fits blocks ds wfs d;
       prefixes = λ front whole bytes zf zw begins bs cs wfs wgs j k. prefix bases reference front whole bs cs wfs wgs j k begins;
       one-division = λ block one other wf d e. one-divided bases block one other wf d e;

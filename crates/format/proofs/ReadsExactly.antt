@@ -1,12 +1,13 @@
 -- Demand 2, reading: a well-formed block gives exactly the letters, lengths, names and counts defined, and no other
 -- block is accepted. Assumes nothing.
 pub mod Answers
-use mathlib.Core.Path.{_≡_, sym, ap, subst}
+use mathlib.Core.Path.{_≡_, sym, ap, _∙_, subst}
 use Prim.Native.Nat.{ℕ}
 use mathlib.Core.List.{List}
 use Rattle.format.specs.BlockAnswer.{validatedBlock, decoded}
 use Rattle.format.specs.Demands.{Demand2Reading}
 use Rattle.format.proofs.BlockLaws.{first-block, block-found}
+use Rattle.format.proofs.CountLaws.{block-top}
 use Answers.{decodes, block-counts, Decoded, decoded-zero, validated-zero}
 
 -- Whatever follows a block, decoding and judging accept it exactly if it is well-formed (and there is room); then
@@ -37,4 +38,7 @@ demand-2-reading bases reference fits =
             (ap (λ o. o .number) (block-counts bases reference (r .0) (r .1) (r .3 .divided) fits (r .3) (r .3 .divides))),
       );
       counts = λ block rest divided wf d. block-counts bases reference block rest divided fits wf d;
+      top = λ block rest divided wf d.
+          ap (λ o. o .counts .top) (block-counts bases reference block rest divided fits wf d)
+          ∙ block-top bases reference divided;
     }

@@ -18,6 +18,7 @@ countedOf counts =
       letters = counts .letters;
       entries = counts .entries;
       differences = counts .differences;
+      top = counts .top;
     }
 
 -- On one block.

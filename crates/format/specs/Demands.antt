@@ -17,9 +17,10 @@ use lib.Dec.{leb, eqb}
 use Rattle.base.specs.Faults.{Fault, fault, NoneFits}
 use Rattle.base.specs.Answer.{firstNumber}
 use Rattle.base.specs.Paste.{pasted}
-use Rattle.base.specs.Lists.{member, placesFrom, All, Begins, Below, AllBytes}
+use Rattle.base.specs.Lists.{member, placesFrom, countTrue, total, All, Begins, Below, AllBytes}
 use Rattle.dna.specs.Reference.{alphabet, referenceSizeWrong, ReferenceFits}
 use Rattle.dna.specs.Sizes.{lengthInvalid}
+use Rattle.dna.specs.Alignment.{entriesOf}
 use Rattle.dna.specs.Counts.{Counted, zeroCounts, recordCounts}
 use Rattle.dna.specs.Division.{Division, SameDivision, Divides, divisionBytes, readsOf, readEnds}
 use Rattle.dna.specs.Rules.{totals, exact}
@@ -223,6 +224,13 @@ readCounts bases reference divided =
     map (λ read. recordCounts reference (read .context) (read .piece .stored))
     (readsOf bases (divided .lengths) (divided .division))
 
+-- 02, Ticket 4: how many reads of a division of a block have a record with exactly 31 entries.
+abbrev pub readsAtTop : (bases : ℕ) (divided : BlockDivision) → ℕ
+readsAtTop bases divided =
+    countTrue
+    (map (λ read. eqb (length (entriesOf (read .piece .stored .fields))) 31)
+    (readsOf bases (divided .lengths) (divided .division)))
+
 -- ---- Demand 2, reading: a well-formed block gives exactly what is defined, no other is accepted
 
 -- The input begins with a well-formed block, and there is room for it.
@@ -233,12 +241,14 @@ pub record Readable (bases : ℕ) (reference input : List ℕ) (buffers : Buffer
   pub wellFormed : WellFormed bases block
   pub room : Room reference bases buffers (wellFormed .divided)
 
--- What decoding gives by a division: its counts, its letters, its names and the ends of both, and
--- the buffers past them as before.
+-- What decoding gives by a division: its counts, of which the last, top, is how many of its reads
+-- have a record with exactly 31 entries (02, Ticket 4); its letters, its names and the ends of both,
+-- and the buffers past them as before.
 pub record Decodes (bases : ℕ) (reference block input : List ℕ) (buffers : Buffers)
     (divided : BlockDivision) : Type 0 where
   pub outcome : decoded bases reference input buffers
       ≡ acceptedBlock (length block) (totals exact (readCounts bases reference divided))
+  pub top-is : decoded bases reference input buffers .counts .top ≡ readsAtTop bases divided
   pub letters-are : decodedBuffers bases reference input buffers .letters
       ≡ pasted (buffers .letters) 0 (flatten (blockReads reference bases divided))
   pub ends-are : decodedBuffers bases reference input buffers .ends
@@ -268,6 +278,11 @@ pub record ReadsBlocks (bases : ℕ) (reference : List ℕ) : Type 0 where
       → DividesBlock bases block divided
       → validatedBlock bases reference (block ++ rest)
       ≡ acceptedBlock (length block) (totals exact (readCounts bases reference divided))
+  -- The last of them, top, is how many reads of the division have a record with exactly 31 entries
+  -- (02, Ticket 4).
+  pub top : (block rest : List ℕ) (divided : BlockDivision) → WellFormed bases block
+      → DividesBlock bases block divided
+      → validatedBlock bases reference (block ++ rest) .counts .top ≡ readsAtTop bases divided
 
 abbrev pub Demand2Reading : Type 0
 Demand2Reading =
@@ -442,6 +457,11 @@ pub record JudgesFiles (bases : ℕ) (reference : List ℕ) : Type 0 where
       → AllWellFormed bases blocks → Joined blocks file → DivideBlocks bases blocks ds
       → validated bases reference file
       ≡ acceptedFile (length blocks) (totals wrapped (flatMap (readCounts bases reference) ds))
+  -- The last of them, top, is how many reads of the divisions have a record with exactly 31
+  -- entries, modulo 2 ^ 64 (02, Ticket 4).
+  pub top : (file : List ℕ) (blocks : List (List ℕ)) (ds : List BlockDivision)
+      → AllWellFormed bases blocks → Joined blocks file → DivideBlocks bases blocks ds
+      → validated bases reference file .counts .top ≡ wrapped (total (map (readsAtTop bases) ds))
   -- Its reads and its names are, block after block, those that decoding gives each block.
   pub reads : (blocks : List (List ℕ)) (ds : List BlockDivision) → AllWellFormed bases blocks
       → DivideBlocks bases blocks ds

@@ -1,23 +1,28 @@
 -- Worked examples over the answers (level 2), for what no theorem would catch: 01's listing block
--- of 132 bytes, a file of two blocks, and lists of reads as the fixed rule writes them. The proof,
--- by computation, is proofs/ExamplesHold.antt.
+-- of 132 bytes, files of two blocks, reads at the top, and lists of reads as the fixed rule writes
+-- them. The proof, by computation, is proofs/ExamplesHold.antt.
 use Prim.Native.Nat.{ℕ, suc, _+_, _%_}
 use mathlib.Core.Path.{_≡_}
-use mathlib.Core.Bool.{Bool, true, false}
+use mathlib.Core.Bool.{Bool, true, false, cond, _||_}
 use mathlib.Core.List.{List, [], _∷_, _++_, map}
-use lib.ListN.{replicate}
+use lib.ListN.{take, replicate}
+use lib.Dec.{ltb, eqb}
 use Rattle.base.specs.Lists.{build}
+use Rattle.dna.specs.Reference.{codeN}
 use Rattle.dna.specs.Record.{RecordFields, perfect, global, local, raw}
+use Rattle.dna.specs.Division.{divisionCounts}
+use Rattle.dna.specs.TopExample.{fortyBases, topNSection, topSection}
 use Rattle.dna.specs.Sums.{A, C, G, T, N, reference, packed, entry, oneRead}
 use Rattle.format.specs.WellFormed.{BlockDivision, WellFormed}
 use Rattle.format.specs.Joined.{fileReads}
 use Rattle.format.specs.EncodeAnswer.{EncodeInput, blockOf}
 use Rattle.format.specs.Outcome.{acceptedFile}
-use Rattle.format.specs.BlockAnswer.{Buffers, buffersOf, decoded, decodedBuffers, idAnswer}
+use Rattle.format.specs.BlockAnswer.{Buffers, buffersOf, validatedBlock, decoded}
+use Rattle.format.specs.BlockAnswer.{decodedBuffers, idAnswer}
 use Rattle.format.specs.FileAnswer.{validated}
 use Rattle.format.specs.RuleEntries.{fillerCount}
 use Rattle.format.specs.RuleRecord.{Candidate, stepFits}
-use Rattle.format.specs.RuleBlock.{writtenFrom}
+use Rattle.format.specs.RuleBlock.{writtenFrom, writtenDivision}
 
 -- ---- Blocks and files
 
@@ -71,12 +76,12 @@ pub record ListingRight : Type 0 where
         read = 0;
         blocks = 0;
         bytes = 132;
-        counts = record { reads = 1; letters = 4; entries = 1; differences = 1 };
+        counts = record { reads = 1; letters = 4; entries = 1; differences = 1; top = 0 };
       }
   pub buffers : decodedBuffers 12 reference listingBlock smallBuffers
       ≡ buffersOf (A ∷ C ∷ T ∷ T ∷ 9 ∷ 9 ∷ []) (4 ∷ 9 ∷ []) (9 ∷ 9 ∷ []) (9 ∷ [])
   pub one-block : validated 12 reference listingBlock
-      ≡ acceptedFile 1 (record { reads = 1; letters = 4; entries = 1; differences = 1 })
+      ≡ acceptedFile 1 (record { reads = 1; letters = 4; entries = 1; differences = 1; top = 0 })
   pub two-blocks : validated 12 reference (listingBlock ++ listingBlock)
       ≡ record {
         number = 0;
@@ -84,7 +89,7 @@ pub record ListingRight : Type 0 where
         read = 0;
         blocks = 2;
         bytes = 0;
-        counts = record { reads = 2; letters = 8; entries = 2; differences = 2 };
+        counts = record { reads = 2; letters = 8; entries = 2; differences = 2; top = 0 };
       }
   pub file-reads : fileReads reference 12 (listingDivided ∷ listingDivided ∷ [])
       ≡ (A ∷ C ∷ T ∷ T ∷ []) ∷ (A ∷ C ∷ T ∷ T ∷ []) ∷ []
@@ -95,7 +100,46 @@ pub record ListingRight : Type 0 where
         read = 0;
         blocks = 0;
         bytes = 0;
-        counts = record { reads = 0; letters = 0; entries = 0; differences = 0 };
+        counts = record { reads = 0; letters = 0; entries = 0; differences = 0; top = 0 };
+      }
+
+-- 02, Ticket 4: the section of TopExample in a block with flag 0x1 and b_id 5.
+unfoldable pub topBlock : List ℕ
+topBlock =
+    0x49 ∷ 0x7c ∷ 121 ∷ 0 ∷ 0 ∷ 0 ∷ 89 ∷ 0 ∷ 0 ∷ 0 ∷ (replicate 16 0
+    ++ (1 ∷ 0 ∷ 0 ∷ 0 ∷ (replicate 12 0
+    ++ (1 ∷ 0 ∷ 0 ∷ 0 ∷ 40 ∷ 0 ∷ 0 ∷ 0 ∷ 3 ∷ 0 ∷ 0 ∷ 0 ∷ 0x19 ∷ 0x50 ∷ 5 ∷ (replicate 16 0
+    ++ (120 ∷ (replicate 47 0 ++ (topSection ++ topNSection))))))))
+
+-- Judged alone it has one read at the top, and twice in a file two. Refused, with a byte of it
+-- missing, its counts are 0.
+pub record TopBlockRight : Type 0 where
+  pub alone : validatedBlock 40 fortyBases topBlock
+      ≡ record {
+        number = 0;
+        block = 0;
+        read = 0;
+        blocks = 0;
+        bytes = 211;
+        counts = record { reads = 3; letters = 120; entries = 61; differences = 57; top = 1 };
+      }
+  pub twice : validated 40 fortyBases (topBlock ++ topBlock)
+      ≡ record {
+        number = 0;
+        block = 0;
+        read = 0;
+        blocks = 2;
+        bytes = 0;
+        counts = record { reads = 6; letters = 240; entries = 122; differences = 114; top = 2 };
+      }
+  pub refused : validated 40 fortyBases (topBlock ++ take 210 topBlock)
+      ≡ record {
+        number = 8;
+        block = 1;
+        read = 0;
+        blocks = 0;
+        bytes = 0;
+        counts = record { reads = 0; letters = 0; entries = 0; differences = 0; top = 0 };
       }
 
 -- ---- The fixed rule
@@ -107,6 +151,15 @@ longReference = replicate 17 0x1b
 -- CGTA again and again: it differs from the reference everywhere.
 unfoldable pub shifted : (count : ℕ) → List ℕ
 shifted count = build count (λ k. suc k % 4)
+
+-- 160 bases of the same, and a read of 155 letters that differs from them in letters 0 to 27 and
+-- in 154, with an N on letter 90.
+unfoldable pub wideReference : List ℕ
+wideReference = replicate 40 0x1b
+
+unfoldable pub fullRead : List ℕ
+fullRead =
+    build 155 (λ k. cond (eqb k 90) codeN (cond (ltb k 28 || eqb k 154) (suc k % 4) (k % 4)))
 
 -- The reverse complement of the reference's first 65 bases, but for its last letter.
 unfoldable pub turnedRead : List ℕ
@@ -200,6 +253,23 @@ pub record RuleRight : Type 0 where
   -- entries that a record can have; 31 at 1954.
   pub fillers : map fillerCount (0 ∷ 1 ∷ 63 ∷ 64 ∷ 126 ∷ 127 ∷ 1953 ∷ 1954 ∷ [])
       ≡ 0 ∷ 0 ∷ 0 ∷ 1 ∷ 1 ∷ 2 ∷ 30 ∷ 31 ∷ []
+  -- 02, Ticket 4: the record of `fullRead` has 29 differences and, on letters 90, under the N, and
+  -- 153, two fillers. Of it, a read that differs in all its 30 letters, and one that differs in all
+  -- its 40 and goes raw, one read is at the top.
+  pub full : map (λ w. w .stored)
+      (writtenFrom 160 wideReference 0 (fullRead ∷ []) (placeAt 0 1 ∷ []))
+      ≡ record {
+        fields =
+            global 0
+            (entry 0 1 ∷ (build 27 (λ k. entry 1 ((2 + k) % 4))
+            ++ (entry 63 2 ∷ entry 63 1 ∷ entry 1 3 ∷ [])));
+        nOffsets = 90 ∷ [];
+      }
+      ∷ []
+  pub top : divisionCounts wideReference 160 (155 ∷ 30 ∷ 40 ∷ [])
+      (writtenDivision 160 wideReference (fullRead ∷ shifted 30 ∷ shifted 40 ∷ [])
+      (replicate 3 (placeAt 0 1)))
+      ≡ record { reads = 3; letters = 225; entries = 61; differences = 59; top = 1 }
   -- Steps up to 65,535.
   pub step-65535 : stepFits 1 65536 ≡ true
   pub step-65536 : stepFits 1 65537 ≡ false

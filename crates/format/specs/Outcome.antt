@@ -42,4 +42,5 @@ modulo64 counts =
       letters = counts .letters % 2 ^ 64;
       entries = counts .entries % 2 ^ 64;
       differences = counts .differences % 2 ^ 64;
+      top = counts .top % 2 ^ 64;
     }

@@ -7,23 +7,30 @@ use Rattle.dna.specs.Counts.{Counted}
 use Rattle.base.specs.Decimal.{decimal}
 use Rattle.lines.specs.Text.{text}
 
--- No line but a read's is longer: a block line with five numbers of 20 digits.
+-- No line but a read's is longer: a block line with six numbers of 20 digits.
 abbrev pub lineRoom : ℕ
-lineRoom = 145
+lineRoom = 170
+
+-- Of it the counts take no more.
+abbrev pub countsRoom : ℕ
+countsRoom = 143
 
 -- A number after its name.
 unfoldable pub labelled : (label : String) (number : ℕ) → List ℕ
 labelled label number = text label ++ decimal number
 
--- A block line starts with b_id; the counts follow.
-unfoldable pub blockLine : (id : ℕ) (counts : Counted) → List ℕ
-blockLine id counts =
-    labelled "block " id
-    ++ labelled " reads " (counts .reads)
+-- The counts, top last (02, Ticket 4).
+unfoldable pub countsText : (counts : Counted) → List ℕ
+countsText counts =
+    labelled " reads " (counts .reads)
     ++ labelled " letters " (counts .letters)
     ++ labelled " entries " (counts .entries)
     ++ labelled " differences " (counts .differences)
-    ++ text "\n"
+    ++ labelled " top " (counts .top)
+
+-- A block line starts with b_id; the counts follow.
+unfoldable pub blockLine : (id : ℕ) (counts : Counted) → List ℕ
+blockLine id counts = labelled "block " id ++ countsText counts ++ text "\n"
 
 -- A read is a line of its letters.
 unfoldable pub readLine : (letters : List ℕ) → List ℕ

@@ -13,6 +13,8 @@ ghost use Rattle.format.specs.Answered.{countedOf};
 ghost use Rattle.base.specs.Decimal.{decimal};
 ghost use Rattle.lines.specs.Lines.{
   lineRoom,
+  countsRoom,
+  countsText,
   blockLine,
   readLine,
   endLine,
@@ -63,12 +65,23 @@ pub fn put_block_line(id: u64, counts: Counts, out: &mut [u8], at: usize) -> usi
         ≡ pasted (now (out .entry)) at (blockLine id (countedOf counts)))
         × (r ≡ at + length (blockLine id (countedOf counts))) × (r ≤ at + lineRoom) ⌝ }
 {
-    let reads = put_labelled(b"block ", id, out, at);
-    let letters = put_labelled(b" reads ", counts.reads, out, reads);
+    let next = put_labelled(b"block ", id, out, at);
+    let end = put_counts(counts, out, next);
+    put_text(b"\n", out, end)
+}
+
+// Writes the counts of a block, each after its name.
+fn put_counts(counts: Counts, out: &mut [u8], at: usize) -> usize
+    requires { ⌜ at + countsRoom ≤ length (now out) ⌝ }
+    ensures { λ r. ⌜ (now (out .exit)
+        ≡ pasted (now (out .entry)) at (countsText (countedOf counts)))
+        × (r ≡ at + length (countsText (countedOf counts))) × (r ≤ at + countsRoom) ⌝ }
+{
+    let letters = put_labelled(b" reads ", counts.reads, out, at);
     let entries = put_labelled(b" letters ", counts.letters, out, letters);
     let differences = put_labelled(b" entries ", counts.entries, out, entries);
-    let end = put_labelled(b" differences ", counts.differences, out, differences);
-    put_text(b"\n", out, end)
+    let top = put_labelled(b" differences ", counts.differences, out, differences);
+    put_labelled(b" top ", counts.top, out, top)
 }
 
 // Writes the letters of a read as a line.

@@ -36,8 +36,8 @@ pub const NAME_BYTES_LENT: usize = 32_768;
 
 pub const NAME_ENDS_LENT: usize = 4_096;
 
-// A block line of 145 bytes, the letters, and the end of each read's line.
-pub const TEXT_ROOM: usize = 37_009;
+// A block line of 170 bytes, the letters, and the end of each read's line.
+pub const TEXT_ROOM: usize = 37_034;
 
 // What a turn gave: the length of its text, and how far the window moves; 0 after a refusal.
 pub struct Turn {

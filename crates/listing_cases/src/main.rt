@@ -1,6 +1,6 @@
 // Lists files of its own, made by the second implementation (rust/second/src/listing_cases.rs): the
-// specification's example, refused references and blocks, and as much as fits and one more. The
-// case NAME has the files NAME.reference and NAME.blocks.
+// specification's example, refused references and blocks, as much as fits and one more, and reads at
+// the top. The case NAME has the files NAME.reference and NAME.blocks.
 use libc::STDOUT_FILENO;
 use lines::put_text;
 
@@ -51,7 +51,7 @@ fn list_references() {
     list_case(b"reference_too_large");
 }
 
-// As much as fits the window and what is lent, and one more.
+// As much as fits the window and what is lent, and one more; and reads at the top.
 fn list_limits() {
     list_case(b"window_full");
     list_case(b"window_overrun");
@@ -59,6 +59,7 @@ fn list_limits() {
     list_case(b"too_many_letters");
     list_case(b"too_many_reads");
     list_case(b"many_blocks");
+    list_case(b"top");
 }
 
 fn main() {

@@ -118,7 +118,7 @@ fn name_end_room() -> [u32; NAME_ENDS_LENT]
 }
 
 fn text_room() -> [u8; TEXT_ROOM]
-    ensures { λ r. ⌜ 37_009 ≡ length r ⌝ }
+    ensures { λ r. ⌜ 37_034 ≡ length r ⌝ }
 {
     [0; TEXT_ROOM]
 }

@@ -5,6 +5,7 @@ pub mod compare;
 
 use compare::expected_code;
 use compare::next_difference;
+use dna::MAX_ENTRIES;
 ghost use mathlib.Core.Path.{_≡_};
 ghost use mathlib.Core.Bool.{true, false};
 ghost use mathlib.Core.List.{map};
@@ -25,9 +26,7 @@ ghost use Rattle.mismatches.specs.Entries.{
   AlignedFits,
 };
 
-// The most entries that a record holds, and the most letters from one to the next.
-const MAX_ENTRIES: usize = 31;
-
+// The most letters from one entry to the next.
 const MAX_ENTRY_OFFSET: usize = 63;
 
 // Writes the entries of the aligned letters at a stretch to the start of the list, a byte each, and

@@ -14,6 +14,7 @@ pub fn put_block_outcome(outcome: BlockOutcome) {
             put_number(counts.letters);
             put_number(counts.entries);
             put_number(counts.differences);
+            put_number(counts.top);
         }
         BlockOutcome::Refused(number, read) => {
             put_word(b"refused");

@@ -33,6 +33,7 @@ with-plus differences a b =
       letters = a .letters + b .letters;
       entries = a .entries + b .entries;
       differences = n;
+      top = a .top + b .top;
     })
     (cond-add differences (a .differences) (b .differences))
 

@@ -19,6 +19,7 @@ use Rattle.dna.specs.Division.{Division, readsOf}
 use Rattle.dna.specs.Division as divisions
 use Rattle.dna.specs.Walk.{ReadRefusal, Walk, sectionWalk}
 use Rattle.dna.specs.Counts.{Counted, sumCounts}
+use Rattle.dna.proofs.PlusLaws.{plus-none}
 use Rattle.lengths.specs.Cursor.{lengthsLeft}
 use Rattle.lengths.proofs.NextLaws.{walk-start}
 use Rattle.reads.specs.declared.ReadCursor.{ReadCursor}
@@ -31,7 +32,6 @@ use Rattle.reads.specs.Walked.{readsCounts, lastOf, walkAnswer, Writable
 use Rattle.reads.proofs.AndThenLaws.{andThen-assoc}
 use Rattle.reads.proofs.FlatLaws.{reads-section}
 use Rattle.reads.proofs.LeftLaws.{steps-left, steps-lengths}
-use Rattle.reads.proofs.TurnLaws.{plus-none}
 use Rattle.reads.proofs.TakenLaws.{ReadStands, TakenStands, taken-stands}
 use Rattle.reads.proofs.StepsLaws.{steps-add, StepsSplit, steps-split, steps-counted}
 use Rattle.reads.proofs.StepsLaws.{steps-fit, first-fits, one-step}

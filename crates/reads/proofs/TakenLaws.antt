@@ -5,6 +5,7 @@ use native.Mathlib.Omega.{arith}
 use mathlib.Core.Bool.{Bool, true, false, cond}
 use mathlib.Core.List.{List, [], _∷_}
 use lib.ListN.{length}
+use lib.Dec.{eqb}
 use Rattle.base.specs.Lists.{AllBytes, build, countTrue}
 use Rattle.base.specs.Answer.{found, refused, refusedAs}
 use Rattle.base.proofs.ListLaws.{length-build, by-test}
@@ -12,9 +13,9 @@ use Rattle.base.proofs.AnswerLaws.{found-same, absurd-found, checked-found, and
 use Rattle.base.proofs.AnswerLaws.{found-refusedAs}
 use Rattle.dna.specs.Reference.{ReferenceFits}
 use Rattle.dna.specs.Sizes.{maxReadLength}
-use Rattle.dna.specs.Record.{ReadContext, RecordFields, StoredRecord}
+use Rattle.dna.specs.Record.{maxEntries, ReadContext, RecordFields, StoredRecord}
 use Rattle.dna.specs.Alignment.{isAligned, position, positionAfter, entriesOf}
-use Rattle.dna.specs.Counts.{isDifference, recordCounts}
+use Rattle.dna.specs.Counts.{isDifference, topOf, recordCounts}
 use Rattle.dna.specs.Division.{contextOf}
 use Rattle.dna.specs.RecordAt.{recordAt}
 use Rattle.dna.specs.Rules.{RulesHold}
@@ -230,6 +231,7 @@ module _ (source : Source) (read : FoundRead) (bytes : AllBytes (source .dna))
         letters = read .context .readLength;
         entries = length (entriesOf (read .stored .fields));
         differences = cond differences n 0;
+        top = topOf (length (entriesOf (read .stored .fields)));
       })
       (differences-laid (read .context) (source .dna) (read .at) bytes (stands .stands) reference 0)
 
@@ -241,11 +243,17 @@ countTrue-le [] = omega arith
 countTrue-le (true ∷ tests) = omega (arith, countTrue-le tests)
 countTrue-le (false ∷ tests) = omega (arith, countTrue-le tests)
 
+-- A read is at the top once or not at all.
+topOf-le : (entries : ℕ) → topOf entries ≤ 1
+unfolding topOf
+topOf-le entries = by-test (eqb entries maxEntries) (λ t. rw t (omega arith)) (λ t. rw t (omega arith))
+
 -- Entries, and the differences among them, are few.
 pub counts-few : (differences : Bool) (reference dna : List ℕ) (read : Read)
     → Printable dna reference (read .length) (read .«record») (read .layout)
     → (countsIn differences reference dna read .entries ≤ 31)
     × (countsIn differences reference dna read .differences ≤ 31)
+    × (countsIn differences reference dna read .top ≤ 1)
 unfolding countsIn recordCounts
 counts-few differences reference dna read printable =
     let few : read .layout .«entry_count» ≤ 31 = printable .laid .lists .entry-count in
@@ -260,4 +268,5 @@ counts-few differences reference dna read printable =
     omega (arith, countTrue-le tests, printable .counted) in (
       few,
       by-test differences (λ t. rw t least) (λ t. rw t (omega arith)),
+      topOf-le (read .layout .«entry_count»),
     )

@@ -2,7 +2,7 @@
 -- written before. Assumes nothing.
 use mathlib.Core.Path.{_≡_, refl, sym, ap, ap₂, _∙_}
 use Prim.Native.Nat.{ℕ, zero, suc, _-_, _≤_, _<_}
-use native.Mathlib.Nat.{not-suc-le-zero, zero-add, add-zero, add-assoc}
+use native.Mathlib.Nat.{not-suc-le-zero}
 use native.Mathlib.Omega.{arith}
 use mathlib.Core.Bool.{Bool, true}
 use mathlib.Core.List.{List, [], _∷_}
@@ -11,6 +11,7 @@ use Rattle.base.proofs.Tests.{absurd-test}
 use Rattle.dna.specs.Counts.{Counted, zeroCounts, plus, sumCounts}
 use Rattle.dna.specs.Walk.{ReadRefusal, Walk, refusedAt}
 use Rattle.dna.specs.declared.Counts.{Counts}
+use Rattle.dna.proofs.PlusLaws.{none-plus, plus-none, plus-assoc}
 use Rattle.format.specs.Answered.{countedOf}
 use Rattle.reads.specs.declared.Read.{Read}
 use Rattle.reads.specs.declared.ReadCursor.{ReadCursor}
@@ -81,39 +82,6 @@ walkedOn differences reference counts last (found arrived next) =
     (countsOf (plus (countedOf counts) (readsCounts differences reference (arrived .reads))))
 walkedOn differences reference counts last (refused why) =
     walks.Refused (why .number) (why .read)
-
-none-plus : (counts : Counted) → plus zeroCounts counts ≡ counts
-unfolding plus
-none-plus counts =
-    λ t.
-    record {
-      reads = zero-add (counts .reads) t;
-      letters = zero-add (counts .letters) t;
-      entries = zero-add (counts .entries) t;
-      differences = zero-add (counts .differences) t;
-    }
-
-pub plus-none : (counts : Counted) → plus counts zeroCounts ≡ counts
-unfolding plus
-plus-none counts =
-    λ t.
-    record {
-      reads = add-zero (counts .reads) t;
-      letters = add-zero (counts .letters) t;
-      entries = add-zero (counts .entries) t;
-      differences = add-zero (counts .differences) t;
-    }
-
-plus-assoc : (a b c : Counted) → plus (plus a b) c ≡ plus a (plus b c)
-unfolding plus
-plus-assoc a b c =
-    λ t.
-    record {
-      reads = add-assoc (a .reads) (b .reads) (c .reads) t;
-      letters = add-assoc (a .letters) (b .letters) (c .letters) t;
-      entries = add-assoc (a .entries) (b .entries) (c .entries) t;
-      differences = add-assoc (a .differences) (b .differences) (c .differences) t;
-    }
 
 -- Before the first turn.
 pub walked-first : (differences : Bool) (reference : List ℕ) (counts : Counts) (last : Read)

@@ -62,6 +62,7 @@ pub record CountsBelow (counts : Counts) (turns : ℕ) : Type 0 where
   pub letters : counts .letters ≤ 100_000 * turns
   pub entries : counts .entries ≤ 31 * turns
   pub differences : counts .differences ≤ 31 * turns
+  pub top : counts .top ≤ turns
 
 -- ---- Buffers
 
@@ -123,6 +124,7 @@ walking-first source reference start steps count write letters ends last counts 
         letters = omega arith;
         entries = omega (arith, ap (λ (c : Counts). c .entries) none);
         differences = omega (arith, ap (λ (c : Counts). c .differences) none);
+        top = omega (arith, ap (λ (c : Counts). c .top) none);
       };
       same-letters = refl;
       same-ends = refl;

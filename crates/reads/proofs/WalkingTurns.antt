@@ -77,9 +77,9 @@ module _ (source : Source) (reference : List ℕ) (start : ReadCursor) (steps : 
 
     module _ (visited : Counts)
         (counted : visited ≡ countsIn (write || count) reference (source .dna) read) where
-      visited-few : (visited .entries ≤ 31) × (visited .differences ≤ 31)
+      visited-few : (visited .entries ≤ 31) × (visited .differences ≤ 31) × (visited .top ≤ 1)
       visited-few =
-          subst (λ (c : Counts). (c .entries ≤ 31) × (c .differences ≤ 31)) (sym counted)
+          subst (λ (c : Counts). (c .entries ≤ 31) × (c .differences ≤ 31) × (c .top ≤ 1)) (sym counted)
           (counts-few (write || count) reference (source .dna) read turn-printable)
 
       visited-read : visited .reads ≡ 1
@@ -104,6 +104,7 @@ module _ (source : Source) (reference : List ℕ) (start : ReadCursor) (steps : 
             letters = omega (arith, walking .below .letters, visited-letters, short);
             entries = omega (arith, walking .below .entries, visited-few .0);
             differences = omega (arith, walking .below .differences, visited-few .1);
+            top = omega (arith, walking .below .top, visited-few .2);
           }
 
       module _ (from : ℕ) (from-is : from ≡ counts .letters) (counts′ : Counts)
@@ -168,6 +169,13 @@ module _ (source : Source) (reference : List ℕ) (start : ReadCursor) (steps : 
                     ap (λ (c : Counts). c .differences) added,
                     walking .below .differences,
                     visited-few .1,
+                  );
+              top =
+                  omega (
+                    arith,
+                    ap (λ (c : Counts). c .top) added,
+                    walking .below .top,
+                    visited-few .2,
                   );
             }
 

@@ -9,7 +9,7 @@ use Rattle.base.specs.Lists.{total, placesFrom}
 use Rattle.base.specs.Paste.{pasted}
 use Rattle.base.specs.Answer.{found, refused}
 use Rattle.dna.specs.Letters.{recordLetters}
-use Rattle.dna.specs.Counts.{Counted, sumCounts, recordCounts}
+use Rattle.dna.specs.Counts.{Counted, sumCounts, topOf, recordCounts}
 use Rattle.dna.specs.Walk.{Walk}
 use Rattle.dna.specs.declared.Counts.{Counts}
 use Rattle.dna.specs.declared.Record.the-variants as kinds
@@ -62,6 +62,7 @@ countsWith differences counts =
       letters = counts .letters;
       entries = counts .entries;
       differences = cond differences (counts .differences) 0;
+      top = counts .top;
     }
 
 -- The counts of a read, and of some reads.
@@ -82,6 +83,7 @@ countsOf counts =
       letters = counts .letters;
       entries = counts .entries;
       differences = counts .differences;
+      top = counts .top;
     }
 
 -- Two counts whose sums fit 64 bits.
@@ -90,6 +92,7 @@ pub record CountsAdd (a b : Counts) : Type 0 where
   pub letters : a .letters + b .letters < 2 ^ 64
   pub entries : a .entries + b .entries < 2 ^ 64
   pub differences : a .differences + b .differences < 2 ^ 64
+  pub top : a .top + b .top < 2 ^ 64
 
 -- ---- The answer
 
@@ -168,6 +171,7 @@ countsAs read differences =
       letters = read .length;
       entries = read .layout .«entry_count»;
       differences = differences;
+      top = topOf (read .layout .«entry_count»);
     }
 
 -- Its counts, with its differences only where they are asked for.

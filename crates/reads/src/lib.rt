@@ -253,6 +253,7 @@ fn no_counts() -> Counts
         letters: 0,
         entries: 0,
         differences: 0,
+        top: 0,
     }
 }
 
@@ -266,5 +267,6 @@ fn counts_added(a: Counts, b: Counts) -> Counts
         letters: a.letters + b.letters,
         entries: a.entries + b.entries,
         differences: a.differences + b.differences,
+        top: a.top + b.top,
     }
 }

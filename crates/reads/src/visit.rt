@@ -2,6 +2,7 @@
 // to. Differences are counted while the letters are written; else only where they are asked for.
 use crate::Read;
 use dna::Counts;
+use dna::MAX_ENTRIES;
 use record_letters::counts::differences;
 use record_letters::letters::put_read;
 ghost use mathlib.Core.Path.{_≡_};
@@ -10,6 +11,7 @@ ghost use mathlib.Core.List.{[], _∷_};
 ghost use Prim.Native.Nat.{_+_};
 ghost use lib.ListN.{length};
 ghost use Rattle.base.specs.Paste.{pasted};
+ghost use Rattle.dna.specs.Counts.{topOf};
 ghost use Rattle.record_letters.specs.Printed.{Printable};
 ghost use Rattle.reads.specs.Walked.{
   TablesMade,
@@ -135,5 +137,16 @@ fn counts_of(read: Read, differences: u64) -> Counts
         letters: read.length as u64,
         entries: layout.entry_count as u64,
         differences: differences,
+        top: top_of(layout.entry_count as u64),
     }
+}
+
+// 1 where a record has exactly 31 entries, the most that it can have, else 0 (02, Ticket 4).
+fn top_of(entries: u64) -> u64
+    ensures { λ r. ⌜ r ≡ topOf entries ⌝ }
+{
+    if entries == MAX_ENTRIES as u64 {
+        return 1;
+    }
+    0
 }

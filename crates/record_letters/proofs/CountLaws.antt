@@ -10,7 +10,7 @@ use lib.ListN.{length, getD}
 use lib.Dec.{leb, eqb}
 use borrow.Author.Tests.{leb-false, eq-eqb, ne-eqb}
 use Rattle.base.specs.Lists.{build, any, countTrue, placesFrom}
-use Rattle.base.proofs.ListLaws.{by-test}
+use Rattle.base.proofs.ListLaws.{by-test, countTrue-cons}
 use Rattle.base.proofs.Tests.{or-neither}
 use Rattle.dna.specs.Record.{Entry, StoredRecord}
 use Rattle.dna.specs.Alignment.{fieldOf, entriesOf, leftOf, rightOf, alignedLength, position}
@@ -121,11 +121,6 @@ differences-none test section at count k place past =
 
 -- ---- The definition
 
-count-cons : (t : Bool) (tests : List Bool) → countTrue (t ∷ tests) ≡ cond t 1 0 + countTrue tests
-unfolding countTrue
-count-cons true tests = omega arith
-count-cons false tests = omega arith
-
 -- The tests by the entries' numbers count what the entries do one after the other.
 pub count-entries : (test : ℕ → ℕ → Bool) (place : ℕ) (entries : List Entry)
     → countTrue
@@ -137,7 +132,7 @@ pub count-entries : (test : ℕ → ℕ → Bool) (place : ℕ) (entries : List 
 unfolding build countTrue placesFrom differencesFrom
 count-entries test place [] = refl
 count-entries test place (entry ∷ entries) =
-    count-cons (test (entry .code) (place + entry .offset))
+    countTrue-cons (test (entry .code) (place + entry .offset))
     (build (length entries)
     (λ j.
     test (getD (map (λ entry. entry .code) entries) j 0)

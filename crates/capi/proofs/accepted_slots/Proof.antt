@@ -4,12 +4,12 @@ use Rattle.capi.specs.Slots.{acceptedSlots}
 use Rattle.capi.proofs.accepted_slots.Statement.{statement}
 use Rattle.capi.proofs.accepted_slots.Tie as tie
 
-eight-slots-requires : tie.Need-eight-slots-requires
-eight-slots-requires c κs = search needs
+first-slots-requires : tie.Need-first-slots-requires
+first-slots-requires c κs = search needs
 
 returns : tie.Need-returns
 unfolding acceptedSlots
-returns c = c .eight-slots .ensures
+returns c = c .first-slots .ensures
 
 pub accepted-slots-spec : {M : Type 1} → statement M
-accepted-slots-spec = tie.close (tie.spec eight-slots-requires returns)
+accepted-slots-spec = tie.close (tie.spec first-slots-requires returns)

@@ -26,7 +26,7 @@ returns : tie.Need-returns
 unfolding outcomeOfBlock slots acceptedSlots
 returns c =
     c .accepted-slots .ensures
-    ∙ ap (λ (n : ℕ). 0 ∷ 0 ∷ 0 ∷ n ∷ c .before .before .outcome .given .0 .1 .0 .reads ∷ c .before .before .outcome .given .0 .1 .0 .letters ∷ c .before .before .outcome .given .0 .1 .0 .entries ∷ c .before .before .outcome .given .0 .1 .0 .differences ∷ replicate 8 0) (sym (zero-add _))
+    ∙ ap (λ (n : ℕ). 0 ∷ 0 ∷ 0 ∷ n ∷ c .before .before .outcome .given .0 .1 .0 .reads ∷ c .before .before .outcome .given .0 .1 .0 .letters ∷ c .before .before .outcome .given .0 .1 .0 .entries ∷ c .before .before .outcome .given .0 .1 .0 .differences ∷ c .before .before .outcome .given .0 .1 .0 .top ∷ replicate 7 0) (sym (zero-add _))
     ∙ sym (ap (λ o. slots (outcomeOfBlock o)) (c .before .before .outcome .given .1))
 
 returns-2 : tie.Need-returns-2

@@ -13,8 +13,8 @@ use Rattle.capi.proofs.encode_slots.Tie as tie
 enum-known-outcome : tie.Need-enum-known-outcome
 enum-known-outcome c = search needs
 
-eight-slots-requires : tie.Need-eight-slots-requires
-eight-slots-requires c κs = search needs
+first-slots-requires : tie.Need-first-slots-requires
+first-slots-requires c κs = search needs
 
 enum-known-outcome-2 : tie.Need-enum-known-outcome-2
 enum-known-outcome-2 c = search needs
@@ -25,7 +25,7 @@ refused-slots-requires c κs = search needs
 returns : tie.Need-returns
 unfolding outcomeOfEncode slots
 returns c =
-    c .eight-slots .ensures
+    c .first-slots .ensures
     ∙ ap (λ (n : ℕ). 0 ∷ 0 ∷ 0 ∷ n ∷ 0 ∷ 0 ∷ 0 ∷ 0 ∷ replicate 8 0) (sym (zero-add _))
     ∙ sym (ap (λ o. slots (outcomeOfEncode o)) (c .before .before .outcome .given .1))
 
@@ -40,7 +40,7 @@ encode-slots-spec =
     tie.close
     (tie.spec
     enum-known-outcome
-    eight-slots-requires
+    first-slots-requires
     enum-known-outcome-2
     refused-slots-requires
     returns

@@ -8,12 +8,12 @@ use Rattle.capi.proofs.ora_section.Tie as tie
 section-span-requires : tie.Need-section-span-requires
 section-span-requires c κs = search needs
 
-eight-slots-requires : tie.Need-eight-slots-requires
-eight-slots-requires c κs = search needs
+first-slots-requires : tie.Need-first-slots-requires
+first-slots-requires c κs = search needs
 
 returns : tie.Need-returns
 unfolding sectionSlots
-returns c = (refl, c .eight-slots .ensures ∙ ap sectionSlots (c .before .section-span .ensures))
+returns c = (refl, c .first-slots .ensures ∙ ap sectionSlots (c .before .section-span .ensures))
 
 pub ora-section-spec : {M : Type 1} → statement M
-ora-section-spec = tie.close (tie.spec section-span-requires eight-slots-requires returns)
+ora-section-spec = tie.close (tie.spec section-span-requires first-slots-requires returns)

@@ -18,14 +18,18 @@ wrapping-add-u64-requires-3 c κs = search needs
 wrapping-add-u64-requires-4 : tie.Need-wrapping-add-u64-requires-4
 wrapping-add-u64-requires-4 c κs = search needs
 
+wrapping-add-u64-requires-5 : tie.Need-wrapping-add-u64-requires-5
+wrapping-add-u64-requires-5 c κs = search needs
+
 returns : tie.Need-returns
 unfolding wrappedPlus modulo64 plus
 returns c =
     λ i. record {
-      reads = c .before .before .before .wrapping-add-u64 .ensures i;
-      letters = c .before .before .wrapping-add-u642 .ensures i;
-      entries = c .before .wrapping-add-u643 .ensures i;
-      differences = c .wrapping-add-u644 .ensures i;
+      reads = c .before .before .before .before .wrapping-add-u64 .ensures i;
+      letters = c .before .before .before .wrapping-add-u642 .ensures i;
+      entries = c .before .before .wrapping-add-u643 .ensures i;
+      differences = c .before .wrapping-add-u644 .ensures i;
+      top = c .wrapping-add-u645 .ensures i;
     }
 
 pub wrapping-plus-spec : {M : Type 1} → statement M
@@ -36,4 +40,5 @@ wrapping-plus-spec =
     wrapping-add-u64-requires-2
     wrapping-add-u64-requires-3
     wrapping-add-u64-requires-4
+    wrapping-add-u64-requires-5
     returns)

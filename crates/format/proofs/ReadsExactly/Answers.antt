@@ -18,7 +18,7 @@ use Rattle.format.specs.Header.{headerOf, readCount}
 use Rattle.format.specs.Sections.{blockLength}
 use Rattle.format.specs.WellFormed.{BlockDivision, DividesBlock, WellFormed}
 use Rattle.format.specs.Joined.{blockReads}
-use Rattle.format.specs.Outcome.{acceptedBlock}
+use Rattle.format.specs.Outcome.{Outcome, acceptedBlock}
 use Rattle.format.specs.BlockAnswer.{blockAnswer, blockOutcome, validatedBlock}
 use Rattle.format.specs.BlockAnswer.{Buffers, capacityTooSmall, decodeAnswer, decoded}
 use Rattle.format.specs.BlockAnswer.{buffersAfter, decodedBuffers}
@@ -26,7 +26,7 @@ use Rattle.format.specs.Demands.{Room, readCounts, Decodes}
 use Rattle.format.proofs.HeaderLaws.{faults-right, headerOf-append}
 use Rattle.format.proofs.BlockLaws.{block-accepts}
 use Rattle.format.proofs.AnswerNumbers.{OwnRefusal, least-own, block-own, decode-own}
-use Rattle.format.proofs.CountLaws.{block-totals}
+use Rattle.format.proofs.CountLaws.{block-totals, block-top}
 
 -- The length of a well-formed block is what its header says, whatever follows.
 pub block-length : (bases : ℕ) (block rest : List ℕ) → WellFormed bases block → blockLength (headerOf (block ++ rest)) ≡ length block
@@ -58,8 +58,12 @@ decodes bases reference block rest buffers divided fits wf d room =
     let answer : decodeAnswer bases reference (block ++ rest) buffers ≡ found divided (length block) =
     decode-accepts bases reference (block ++ rest) buffers divided (length block) room
     (block-accepts bases reference block rest divided fits wf d) in
+    let outcome′ : decoded bases reference (block ++ rest) buffers
+    ≡ acceptedBlock (length block) (totals exact (readCounts bases reference divided)) =
+    ap (blockOutcome reference bases) answer ∙ ap (acceptedBlock (length block)) (block-totals bases reference divided) in
     record {
-      outcome = ap (blockOutcome reference bases) answer ∙ ap (acceptedBlock (length block)) (block-totals bases reference divided);
+      outcome = outcome′;
+      top-is = ap (λ (o : Outcome). o .counts .top) outcome′ ∙ block-top bases reference divided;
       letters-are = ap (λ (a : Walk BlockDivision). buffersAfter reference bases a buffers .letters) answer;
       ends-are = ap (λ (a : Walk BlockDivision). buffersAfter reference bases a buffers .ends) answer;
       names-are = ap (λ (a : Walk BlockDivision). buffersAfter reference bases a buffers .names) answer;

@@ -25,7 +25,7 @@ use Rattle.dna.specs.RecordFaults.{rawBitStray, clipsInvalid, spanOutside, entr
 use Rattle.dna.specs.RecordFaults.{laterZero, fieldFaults}
 use Rattle.dna.specs.RecordAt.{judgedAt, fieldsAt, nListAt, recordAt, perfectAt, flaggedAt}
 use Rattle.dna.specs.Letters.{Cause, alignedCause, fieldsCause, causeAt, codeOf, recordLetters}
-use Rattle.dna.specs.Counts.{isFiller, isUnderN, isDifference, recordCounts}
+use Rattle.dna.specs.Counts.{isFiller, isUnderN, isDifference, topOf, recordCounts}
 use Rattle.dna.specs.Division.{GroupFlags, flagsAt, Piece, Group, Division, Slot, Read}
 use Rattle.dna.specs.Division.{contextOf, groupSlots, slots, readsFrom, readsOf}
 use Rattle.dna.specs.Walk.{ofRead, lastPosition, readsAt, groupAt, groupsAt, sectionWalk}
@@ -142,7 +142,7 @@ recordCounts-same one other context stored same inside =
     let e = ap countTrue
     (build-cong n (isDifference one context stored) (isDifference other context stored)
     (isDifference-same one other context stored same inside)) in
-    λ i. record { reads = 1; letters = context .readLength; entries = n; differences = e i }
+    λ i. record { reads = 1; letters = context .readLength; entries = n; differences = e i; top = topOf n }
 
 -- ---- What the walk finds
 

@@ -2,8 +2,9 @@
 -- Assumes nothing.
 use native.Mathlib.Omega.{arith}
 use borrow.Author.Needs.{needs}
+use Rattle.format.specs.Answered.{countedOf}
 use Rattle.lines.specs.Text.{text}
-use Rattle.lines.specs.Lines.{blockLine, labelled}
+use Rattle.lines.specs.Lines.{countsText, blockLine, labelled}
 use Rattle.lines.proofs.PutLaws.{put-next}
 use Rattle.lines.proofs.put_block_line.Statement.{statement}
 use Rattle.lines.proofs.put_block_line.Tie as tie
@@ -14,29 +15,8 @@ slice-aggregate-put-labelled c = search needs
 put-labelled-requires : tie.Need-put-labelled-requires
 put-labelled-requires c κs = search needs
 
-slice-aggregate-put-labelled-2 : tie.Need-slice-aggregate-put-labelled-2
-slice-aggregate-put-labelled-2 c = search needs
-
-put-labelled-requires-2 : tie.Need-put-labelled-requires-2
-put-labelled-requires-2 c κs = search needs
-
-slice-aggregate-put-labelled-3 : tie.Need-slice-aggregate-put-labelled-3
-slice-aggregate-put-labelled-3 c = search needs
-
-put-labelled-requires-3 : tie.Need-put-labelled-requires-3
-put-labelled-requires-3 c κs = search needs
-
-slice-aggregate-put-labelled-4 : tie.Need-slice-aggregate-put-labelled-4
-slice-aggregate-put-labelled-4 c = search needs
-
-put-labelled-requires-4 : tie.Need-put-labelled-requires-4
-put-labelled-requires-4 c κs = search needs
-
-slice-aggregate-put-labelled-5 : tie.Need-slice-aggregate-put-labelled-5
-slice-aggregate-put-labelled-5 c = search needs
-
-put-labelled-requires-5 : tie.Need-put-labelled-requires-5
-put-labelled-requires-5 c κs = search needs
+put-counts-requires : tie.Need-put-counts-requires
+put-counts-requires c κs = search needs
 
 slice-aggregate-put-text : tie.Need-slice-aggregate-put-text
 slice-aggregate-put-text c = search needs
@@ -50,24 +30,16 @@ same-length c = search needs
 returns : tie.Need-returns
 unfolding blockLine labelled text
 returns c =
-    let start = c .before .before .before .before .before .before .before .before .before .before .before .before .before .before .before .before .before .before .before .before .before .before .before .before .before .before .before .before .before .before .before in
+    let start = c .before .before .before .before .before .before .before .before .before .before .before .before .before .before .before in
     let a = start .args in
-    let p1 = c .before .before .before .before .before .before .before .before .before .before .before .before .before .before .before .before .before .before .before .before .before .before .before .before .before .before .before .put-labelled in
-    let p2 = c .before .before .before .before .before .before .before .before .before .before .before .before .before .before .before .before .before .before .before .before .before .before .put-labelled2 in
-    let p3 = c .before .before .before .before .before .before .before .before .before .before .before .before .before .before .before .before .before .put-labelled3 in
-    let p4 = c .before .before .before .before .before .before .before .before .before .before .before .before .put-labelled4 in
-    let p5 = c .before .before .before .before .before .before .before .put-labelled5 in
-    let p6 = c .before .before .put-text in
-    let two = put-next (a .out .now) (a .at) (labelled "block " (a .id)) (labelled " reads " (a .counts .reads)) _ _
+    let p1 = c .before .before .before .before .before .before .before .before .before .before .before .put-labelled in
+    let p2 = c .before .before .before .before .before .before .before .put-counts in
+    let p3 = c .before .before .put-text in
+    let two = put-next (a .out .now) (a .at) (labelled "block " (a .id)) (countsText (countedOf (a .counts))) _ _
     (p1 .result) (p2 .result) (p1 .ensures .0, p1 .ensures .1) (omega (arith, start .pre, p1 .ensures .2)) (p2 .ensures .0, p2 .ensures .1) in
-    let three = put-next (a .out .now) (a .at) _ (labelled " letters " (a .counts .letters)) _ _
-    (p2 .result) (p3 .result) two (omega (arith, start .pre, p1 .ensures .2, p2 .ensures .2)) (p3 .ensures .0, p3 .ensures .1) in
-    let four = put-next (a .out .now) (a .at) _ (labelled " entries " (a .counts .entries)) _ _
-    (p3 .result) (p4 .result) three (omega (arith, start .pre, p1 .ensures .2, p2 .ensures .2, p3 .ensures .2)) (p4 .ensures .0, p4 .ensures .1) in
-    let five = put-next (a .out .now) (a .at) _ (labelled " differences " (a .counts .differences)) _ _
-    (p4 .result) (p5 .result) four (omega (arith, start .pre, p1 .ensures .2, p2 .ensures .2, p3 .ensures .2, p4 .ensures .2)) (p5 .ensures .0, p5 .ensures .1) in
-    let put = put-next (a .out .now) (a .at) _ (text "\n") _ _ (p5 .result) (p6 .result) five (omega (arith, start .pre, p1 .ensures .2, p2 .ensures .2, p3 .ensures .2, p4 .ensures .2, p5 .ensures .2)) (p6 .ensures) in
-    (put .0, put .1, omega (arith, p1 .ensures .2, p2 .ensures .2, p3 .ensures .2, p4 .ensures .2, p5 .ensures .2, p6 .ensures .1))
+    let put = put-next (a .out .now) (a .at) _ (text "\n") _ _ (p2 .result) (p3 .result) two
+    (omega (arith, start .pre, p1 .ensures .2, p2 .ensures .2)) (p3 .ensures) in
+    (put .0, put .1, omega (arith, p1 .ensures .2, p2 .ensures .2, p3 .ensures .1))
 
 pub put-block-line-spec : {M : Type 1} → statement M
 put-block-line-spec =
@@ -75,14 +47,7 @@ put-block-line-spec =
     (tie.spec
     slice-aggregate-put-labelled
     put-labelled-requires
-    slice-aggregate-put-labelled-2
-    put-labelled-requires-2
-    slice-aggregate-put-labelled-3
-    put-labelled-requires-3
-    slice-aggregate-put-labelled-4
-    put-labelled-requires-4
-    slice-aggregate-put-labelled-5
-    put-labelled-requires-5
+    put-counts-requires
     slice-aggregate-put-text
     put-text-requires
     same-length

@@ -17,9 +17,12 @@ add-t5 c = search needs
 add-t6 : tie.Need-add-t6
 add-t6 c = search needs
 
+add-t7 : tie.Need-add-t7
+add-t7 c = search needs
+
 returns : tie.Need-returns
 unfolding plus
 returns c = refl
 
 pub counts-added-spec : {M : Type 1} → statement M
-counts-added-spec = tie.close (tie.spec add-t3 add-t4 add-t5 add-t6 returns)
+counts-added-spec = tie.close (tie.spec add-t3 add-t4 add-t5 add-t6 add-t7 returns)
