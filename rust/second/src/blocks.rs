@@ -101,16 +101,19 @@ impl Block {
     }
 
     /// "Counts of a block: reads, letters, entries, and differences ... All
-    /// are sums over its reads."
+    /// are sums over its reads." 02, Ticket 4: they "get a fifth", "counted
+    /// over the defined records".
     pub fn outcome(&self, reference: &Reference) -> Outcome {
         let entries = self.records.iter().map(|record| record.entries().len() as u64);
         let differences = self.records.iter().map(|record| record.differences(reference));
+        let saturated = self.records.iter().filter(|record| record.is_saturated());
         Outcome {
             length: self.length,
             reads: self.records.len() as u64,
             letters: self.letters(),
             entries: entries.sum(),
             differences: differences.sum(),
+            top: saturated.count() as u64,
             ..Outcome::default()
         }
     }

@@ -4,6 +4,7 @@
 use crate::cases_by_hand::{BASES, REFERENCE};
 use crate::cases_names::{named_calls, refused_calls};
 use crate::cases_reverse::reverse_calls;
+use crate::cases_top::top_call;
 use crate::corpus::{stream, Case};
 use crate::generator::{generate_reference, ReferencePlan};
 use crate::name_faults::GIVEN_FAULTS;
@@ -50,6 +51,7 @@ pub fn encode_cases() -> Vec<Case> {
     calls.extend(named_calls());
     calls.extend(refused_calls());
     calls.extend(reverse_calls());
+    calls.push(top_call());
     calls.iter().map(|(label, call)| Case::encoding(label, call)).collect()
 }
 

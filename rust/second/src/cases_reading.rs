@@ -6,6 +6,7 @@ use crate::cases_by_hand::*;
 use crate::cases_dna::{dna_by_hand, n_word_leaves};
 use crate::cases_names::*;
 use crate::cases_reverse::*;
+use crate::cases_top::{top_by_hand, top_files_by_hand, top_without_room};
 use crate::corpus::*;
 use crate::generator::*;
 use crate::mutators::*;
@@ -237,6 +238,9 @@ pub fn decode_cases() -> Vec<Case> {
     let lend = |input: Input| input.case(CaseKind::Decode).lending(12, 12).lending_names(300, 12);
     cases.extend(names.map(lend));
     cases.extend(names_lent_by_hand());
+    let lend = |input: Input| input.case(CaseKind::Decode).lending(200, 12);
+    cases.extend(top_by_hand().into_iter().map(lend));
+    cases.push(top_without_room());
     cases
 }
 
@@ -313,6 +317,7 @@ pub fn validate_block_cases() -> Vec<Case> {
     inputs.extend(reverse_by_hand());
     inputs.extend(reverse_refused_by_hand());
     inputs.extend(reverse_local_faults(rng, 2));
+    inputs.extend(top_by_hand());
     inputs.iter().map(|input| input.case(CaseKind::ValidateBlock)).collect()
 }
 
@@ -373,6 +378,7 @@ pub fn validate_cases() -> Vec<Case> {
     cases.extend(files_by_hand());
     cases.extend(files_with_names());
     cases.extend(reverse_files_by_hand());
+    cases.extend(top_files_by_hand());
     cases
 }
 

@@ -282,10 +282,10 @@ fn without_last_zeros(ends: &[u32]) -> &[u32] {
     &ends[..stored]
 }
 
-/// number block read blocks length reads letters entries differences.
+/// number block read blocks length reads letters entries differences top.
 fn columns(outcome: &Outcome) -> String {
     format!(
-        "{} {} {} {} {} {} {} {} {}",
+        "{} {} {} {} {} {} {} {} {} {}",
         outcome.number,
         outcome.block,
         outcome.read,
@@ -294,7 +294,8 @@ fn columns(outcome: &Outcome) -> String {
         outcome.reads,
         outcome.letters,
         outcome.entries,
-        outcome.differences
+        outcome.differences,
+        outcome.top
     )
 }
 

@@ -7,10 +7,10 @@ use crate::header::*;
 use crate::lengths::{write_words, MAX_LENGTH};
 use crate::letters::{code_of, pack, N_CODE};
 use crate::name_writer::{check_names, write_names};
+use crate::records::MAX_ENTRIES;
 use crate::reference::{Reference, Strand};
 use crate::refusal::*;
 
-const MAX_ENTRIES: usize = 31;
 const MAX_N: usize = 31;
 const MAX_STEP: u64 = 63;
 const VERSION: u16 = 20505;

@@ -1,7 +1,7 @@
 //! 01, "Numbers of refusal": files. "A file is judged block by block with 1
 //! to 21 and stops at the first refusal, adding the block's index; the empty
 //! file is accepted unless the reference earns 1." 02, Ticket 1: "Judging
-//! covers names too", with 40.
+//! covers names too", with 40; Ticket 4: a fifth count, "file sums included".
 
 use crate::blocks::read_block;
 use crate::reference::Reference;
@@ -33,6 +33,7 @@ pub fn with_block(sums: Outcome, counts: Outcome) -> Outcome {
         letters: sums.letters.wrapping_add(counts.letters),
         entries: sums.entries.wrapping_add(counts.entries),
         differences: sums.differences.wrapping_add(counts.differences),
+        top: sums.top.wrapping_add(counts.top),
         ..sums
     }
 }

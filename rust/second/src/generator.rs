@@ -80,6 +80,7 @@ pub struct Expected {
     pub name_ends: Vec<u32>,
     pub entries: u64,
     pub differences: u64,
+    pub top: u64,
 }
 
 #[derive(Clone, Debug)]
@@ -143,8 +144,31 @@ pub fn generate_with_lengths(
     reference: &ReferencePlan,
     lengths: Vec<u64>,
 ) -> Plan {
+    generate_with_entries(rng, shape, reference, lengths, draw_entries)
+}
+
+/// A plan whose global and local records have 30 or 31 entries, but for aligned
+/// parts that are shorter. Its reads have 31 letters or more, which the shape
+/// must allow.
+pub fn generate_saturated(rng: &mut Prng, shape: Shape, reference: &ReferencePlan) -> Plan {
+    let reads = rng.range(1, shape.max_reads);
+    let lengths = (0..reads).map(|_| rng.range(31, shape.max_length)).collect();
+    generate_with_entries(rng, shape, reference, lengths, draw_most_entries)
+}
+
+/// Draws places and letters for what the reference gives, one at least where
+/// it is asked for.
+type EntryDraw = fn(&mut Prng, &[u8], bool) -> Vec<(u64, u8)>;
+
+fn generate_with_entries(
+    rng: &mut Prng,
+    shape: Shape,
+    reference: &ReferencePlan,
+    lengths: Vec<u64>,
+    entry_draw: EntryDraw,
+) -> Plan {
     let mut expected = Expected::default();
-    let groups = generate_groups(rng, reference, &lengths, &mut expected);
+    let groups = generate_groups(rng, reference, &lengths, entry_draw, &mut expected);
     let n_section = groups.iter().map(|group| group.bytes[2]).collect();
 
     let all_equal = lengths.windows(2).all(|pair| pair[0] == pair[1]);
@@ -271,6 +295,7 @@ fn generate_groups(
     rng: &mut Prng,
     reference: &ReferencePlan,
     lengths: &[u64],
+    entry_draw: EntryDraw,
     expected: &mut Expected,
 ) -> Vec<GroupPlan> {
     let mut previous = 0;
@@ -280,7 +305,7 @@ fn generate_groups(
         for (index, &length) in chunk.iter().enumerate() {
             let kind = feasible_kind(rng, length, reference.bases);
             let mut draft = Draft::new(kind, length, previous);
-            draft.fill(rng, reference);
+            draft.fill(rng, reference, entry_draw);
             for (byte, set) in group.bytes.iter_mut().zip(draft.bits) {
                 *byte |= (set as u8) << (7 - index);
             }
@@ -291,6 +316,8 @@ fn generate_groups(
             expected.ends.push(expected.letters.len() as u32);
             expected.entries += draft.record.entries.len() as u64;
             expected.differences += draft.differences;
+            // 02, Ticket 4: "exactly 31 entries", a byte each.
+            expected.top += (draft.record.entries.len() == 31) as u64;
             group.records.push(draft.record);
         }
         groups.push(group);
@@ -341,7 +368,7 @@ impl Draft {
         Draft { record, bits: [false; 4], placed_at: None, letters: Vec::new(), differences: 0 }
     }
 
-    fn fill(&mut self, rng: &mut Prng, reference: &ReferencePlan) {
+    fn fill(&mut self, rng: &mut Prng, reference: &ReferencePlan, entry_draw: EntryDraw) {
         match self.record.kind {
             RecordKind::Raw => self.fill_raw(rng),
             RecordKind::Raw4 => return self.fill_raw4(rng),
@@ -349,7 +376,7 @@ impl Draft {
         }
         let n_places = if rng.once_in(3) { self.draw_n_places(rng) } else { Vec::new() };
         if self.record.kind != RecordKind::Raw {
-            self.fill_placed(rng, reference, &n_places);
+            self.fill_placed(rng, reference, &n_places, entry_draw);
         }
         self.fill_n_list(&n_places);
     }
@@ -402,7 +429,13 @@ impl Draft {
         }
     }
 
-    fn fill_placed(&mut self, rng: &mut Prng, reference: &ReferencePlan, n_places: &[u64]) {
+    fn fill_placed(
+        &mut self,
+        rng: &mut Prng,
+        reference: &ReferencePlan,
+        n_places: &[u64],
+        entry_draw: EntryDraw,
+    ) {
         let (left, right) = self.draw_clips(rng, reference.bases);
         let span = self.record.length - left - right;
         self.record.span = span;
@@ -427,7 +460,7 @@ impl Draft {
 
         let entries = match self.record.kind {
             RecordKind::Perfect => Vec::new(),
-            kind => draw_entries(rng, &given, kind == RecordKind::Global),
+            kind => entry_draw(rng, &given, kind == RecordKind::Global),
         };
         let mut aligned = given.clone();
         for &(place, letter) in &entries {
@@ -526,6 +559,27 @@ fn draw_entries(rng: &mut Prng, given: &[u8], at_least_one: bool) -> Vec<(u64, u
         let place = before + rng.range(low, furthest.min(widest - 1).max(low));
         let letter = if rng.once_in(3) { given[place as usize] } else { rng.pick(b"ACGT") };
         entries.push((place, letter));
+    }
+    entries
+}
+
+/// 30 or 31 entries, or one for each letter of a shorter part; few of them,
+/// some or all are fillers.
+fn draw_most_entries(rng: &mut Prng, given: &[u8], _at_least_one: bool) -> Vec<(u64, u8)> {
+    let count = rng.pick(&[30, 31, 31]).min(given.len() as u64);
+    let mut spare = given.len() as u64 - count;
+    let widest = rng.pick(&[1, 2, 8, 63]);
+    let fillers = rng.pick(&[0, 1, 3]);
+    let mut entries = Vec::new();
+    let mut place = 0;
+    for _ in 0..count {
+        let skipped = rng.range(0, spare.min(widest - 1));
+        spare -= skipped;
+        place += skipped;
+        let is_filler = rng.below(3) < fillers;
+        let letter = if is_filler { given[place as usize] } else { rng.pick(b"ACGT") };
+        entries.push((place, letter));
+        place += 1;
     }
     entries
 }

@@ -48,6 +48,8 @@ pub mod cases_dna;
 
 pub mod cases_reverse;
 
+pub mod cases_top;
+
 pub mod cases_blocks;
 
 pub mod cases_reading;

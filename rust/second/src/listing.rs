@@ -3,7 +3,8 @@
 //! gets 1"; blocks are "each up to 32 KiB", and it "lends 32,768 letters and
 //! 4,096 ends". "A block line starts with b_id; a refusal prints `refused`,
 //! number, block index and read index as its last line." 02, Ticket 1: it
-//! "lends 32,768 name bytes and 4,096 name ends and prints no names".
+//! "lends 32,768 name bytes and 4,096 name ends and prints no names"; Ticket 4:
+//! the "block line ends with `top` and the number".
 
 use crate::blocks::decode;
 use crate::header::block_id;
@@ -58,10 +59,9 @@ fn list(reference_file: &[u8], file: &[u8], text: &mut String) -> Result<(), Ref
 }
 
 fn list_block(outcome: &Outcome, b_id: u64, letters: &[u8], ends: &[u32], text: &mut String) {
-    let Outcome { reads, letters: count, entries, differences, .. } = outcome;
-    text.push_str(&format!(
-        "block {b_id} reads {reads} letters {count} entries {entries} differences {differences}\n"
-    ));
+    let Outcome { reads, letters: count, entries, differences, top, .. } = outcome;
+    text.push_str(&format!("block {b_id} reads {reads} letters {count} entries {entries} "));
+    text.push_str(&format!("differences {differences} top {top}\n"));
     let mut start = 0;
     for &end in &ends[..*reads as usize] {
         let read = &letters[start..end as usize];

@@ -3,6 +3,7 @@
 //! each with the text that 01 asks for.
 
 use crate::cases_by_hand::{Hand, BASES, REFERENCE};
+use crate::cases_top;
 use crate::corpus::stream;
 use crate::generator::{generate_reference, generate_with_lengths, ReferencePlan, Shape};
 use crate::listing::{listing, ENDS_LENT, LETTERS_LENT, MAX_REFERENCE_FILE, WINDOW};
@@ -136,6 +137,8 @@ pub fn cases() -> Vec<ListingCase> {
     cases.extend(reference_cases());
     cases.extend(limit_cases());
     cases.push(many_blocks());
+    let reference = reference_file(cases_top::BASES, &cases_top::REFERENCE);
+    cases.push(case("top", reference, cases_top::top_blocks()));
     cases
 }
 

@@ -1,12 +1,16 @@
 //! 01, "Records": one record, its five kinds, and what it defines. The
 //! checks stand in 01's order: "12 or 14 at the flag byte, 12 for the rest up
 //! to the N list, then 13, 16, 15, 17, 18, 19; then the list". 02, Ticket 2,
-//! places the stretch of a reverse local record.
+//! places the stretch of a reverse local record; Ticket 4 asks which records
+//! have 31 entries.
 
 use crate::lengths::FULL_WORD;
 use crate::letters::{packed_bytes, padding_is_zero, unpack, LETTERS, N_CODE};
 use crate::reference::{Reference, Strand};
 use crate::refusal::*;
+
+/// "count 1 to 31": the five bits of a flag byte's count hold no more.
+pub const MAX_ENTRIES: usize = 31;
 
 /// The DNA section and how far it has been read.
 pub struct Cursor<'a> {
@@ -397,6 +401,12 @@ impl Record {
             Kind::Global(_, entries) | Kind::Local(_, entries, _) => entries,
             _ => &[],
         }
+    }
+
+    /// 02, Ticket 4: "exactly 31 entries". A filler is an entry, and so is one
+    /// under an N.
+    pub fn is_saturated(&self) -> bool {
+        self.entries().len() == MAX_ENTRIES
     }
 
     /// The stretch of a placed record: its lowest reference index, and how many

@@ -60,8 +60,8 @@ impl Refusal {
 /// What a public call answers. `number` is 0 when it accepts.
 ///
 /// `length` is the byte length of the one block (decode, validate_block,
-/// encode); `blocks` is the number of blocks (validate). The counts are
-/// given by decode, validate_block and validate.
+/// encode); `blocks` is the number of blocks (validate). The five counts,
+/// `reads` to `top`, are given by decode, validate_block and validate.
 #[derive(Clone, Copy, Debug, Default, PartialEq, Eq)]
 pub struct Outcome {
     pub number: u32,
@@ -73,6 +73,8 @@ pub struct Outcome {
     pub letters: u64,
     pub entries: u64,
     pub differences: u64,
+    /// 02, Ticket 4: "reads whose record has exactly 31 entries".
+    pub top: u64,
 }
 
 impl From<Refusal> for Outcome {

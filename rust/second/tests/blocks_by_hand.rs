@@ -42,10 +42,10 @@ fn headers() {
         let case = cases.labelled(label);
         validate_block(case.call.bases, &case.call.reference, &case.input)
     };
-    assert_eq!(judged("longer header"), accepted(133, [1, 4, 1, 1]));
+    assert_eq!(judged("longer header"), accepted(133, [1, 4, 1, 1, 0]));
     assert_eq!(judged("flag 1, size section of a byte"), refusal(LENGTHS_INVALID, 0, 0));
     assert_eq!(judged("l_read -1, a read"), refusal(LENGTHS_INVALID, 0, 0));
-    assert_eq!(judged("l_read -1, no reads"), accepted(121, [0; 4]));
+    assert_eq!(judged("l_read -1, no reads"), accepted(121, [0; 5]));
     assert_eq!(judged("raw DNA size 5"), refusal(DNA_SIZE_WRONG, 0, 0));
     assert_eq!(judged("N section of two bytes"), refusal(N_SECTION_WRONG, 0, 0));
     assert_eq!(judged("raw DNA size 5, N section of two bytes"), refusal(DNA_SIZE_WRONG, 0, 0));
@@ -68,7 +68,7 @@ fn files() {
     };
     let refused = refusal(RECORD_FLAG_INVALID, 1, 1);
     assert_eq!(judged("second block's second flag byte"), refused);
-    let two = Outcome { blocks: 2, ..accepted(0, [2, 8, 2, 2]) };
+    let two = Outcome { blocks: 2, ..accepted(0, [2, 8, 2, 2, 0]) };
     assert_eq!(judged("the listing's block twice"), two);
     assert_eq!(judged("empty file, 12 bases"), Outcome::default());
     assert_eq!(judged("empty file, 13 bases in 3 bytes"), refusal(REFERENCE_SIZE_WRONG, 0, 0));
@@ -81,12 +81,12 @@ fn the_reads_of_a_file_of_two_blocks() {
     let cases = Cases::of("decode");
     let mut case = cases.labelled("the listing's block twice").clone();
     let file = case.input.clone();
-    let one = (accepted(132, [1, 4, 1, 1]), vec!["ACTT".to_string()]);
+    let one = (accepted(132, [1, 4, 1, 1, 0]), vec!["ACTT".to_string()]);
     assert_eq!(run_decode(&case), one);
     case.input = file[132..].to_vec();
     assert_eq!(run_decode(&case), one);
 
-    let block = "block 7 reads 1 letters 4 entries 1 differences 1\nACTT\n";
+    let block = "block 7 reads 1 letters 4 entries 1 differences 1 top 0\nACTT\n";
     let reference_file = [&BASES.to_le_bytes()[..], &REFERENCE].concat();
     assert_eq!(listing(&reference_file, &file), format!("{block}{block}end blocks 2\n"));
 }
@@ -98,8 +98,8 @@ fn counts_are_summed_modulo_2_to_the_64() {
     let added = |sums, counts| with_block(accepted(0, sums), accepted(132, counts));
     let one_block = |counts| Outcome { blocks: 1, ..accepted(0, counts) };
     let last = u64::MAX;
-    assert_eq!(added([last; 4], [1, 2, 3, 4]), one_block([0, 1, 2, 3]));
-    let below = [last, last - 1, last - 2, last - 3];
-    assert_eq!(added([last - 3; 4], [3, 2, 1, 0]), one_block(below));
-    assert_eq!(added(below, [0; 4]), one_block(below));
+    assert_eq!(added([last; 5], [1, 2, 3, 4, 5]), one_block([0, 1, 2, 3, 4]));
+    let below = [last, last - 1, last - 2, last - 3, last - 4];
+    assert_eq!(added([last - 4; 5], [4, 3, 2, 1, 0]), one_block(below));
+    assert_eq!(added(below, [0; 5]), one_block(below));
 }

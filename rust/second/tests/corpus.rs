@@ -1,8 +1,9 @@
 //! Property: the corpus in the tree is the one that is made, walks front to
 //! back, keeps its limits, and meets every number, every record kind, reverse
-//! local records at both ends of a reference and every type of a column of
-//! names.
-//! Catches: a corpus gone stale, or one that no longer tests a refusal.
+//! local records at both ends of a reference, records of 30 and 31 entries and
+//! every type of a column of names.
+//! Catches: a corpus gone stale, or one that no longer tests a refusal or a
+//! count.
 
 use second::blocks::read_block;
 use second::corpus::*;
@@ -175,6 +176,49 @@ fn reverse_local_records_are_met() {
             }
         }
         assert!(met[0] >= 20 && met[1] >= 4 && met[2] >= 4, "{} {met:?}", file.name);
+    }
+}
+
+/// Records of 30 and of 31 entries.
+#[test]
+fn full_records_are_met() {
+    for file in corpus().iter().filter(|file| WITH_RECORDS.contains(&file.name)) {
+        let mut met = [0; 2];
+        for (_, record) in records(file) {
+            met[0] += (record.entries().len() == 30) as u32;
+            met[1] += (record.entries().len() == 31) as u32;
+        }
+        assert!(met[0] >= 1 && met[1] >= 2, "{} {met:?}", file.name);
+    }
+}
+
+/// What each line of a file's text gives: its number, then READS to TOP.
+fn counts(name: &str) -> Vec<(u64, Vec<u64>)> {
+    let file = corpus().into_iter().find(|file| file.name == name).unwrap();
+    let line = |line: &str| {
+        let columns: Vec<u64> =
+            line.split(' ').skip(2).map(|column| column.parse().unwrap()).collect();
+        (columns[0], columns[5..10].to_vec())
+    };
+    file.text().lines().map(line).collect()
+}
+
+/// Each count above 0, the fifth also above 1. A refusal has none, and neither
+/// has what the encoder answers.
+#[test]
+fn every_count_is_met() {
+    for name in ["decode", "validate_block", "validate"] {
+        let mut met = [0; 5];
+        let mut several = 0;
+        for (number, counts) in counts(name) {
+            assert!(number == 0 || counts == [0; 5], "{name}");
+            counts.iter().zip(&mut met).for_each(|(&count, met)| *met += (count > 0) as u32);
+            several += (counts[4] > 1) as u32;
+        }
+        assert!(met.iter().all(|&count| count >= 2) && several >= 2, "{name} {met:?} {several}");
+    }
+    for name in ["encode", "encode_large"] {
+        assert!(counts(name).iter().all(|(_, counts)| counts == &[0; 5]), "{name}");
     }
 }
 

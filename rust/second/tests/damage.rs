@@ -26,6 +26,7 @@ fn check(bases: u64, reference: &[u8], input: &[u8]) -> Outcome {
             starts.zip(&ends).map(|(start, end)| end.wrapping_sub(*start)).collect();
         assert_eq!(differences[..read.reads as usize], lengths(input).unwrap());
         assert!(read.differences <= read.entries);
+        assert!(read.top <= read.reads && 31 * read.top <= read.entries);
         check_names(input, &names, &name_ends[..read.reads as usize]);
     } else {
         assert!((1..=22).contains(&read.number) || read.number == 40);
@@ -101,4 +102,5 @@ fn the_most_reads() {
     assert_eq!((outcome.number, outcome.reads), (0, 50_000));
     assert_eq!(outcome.entries, plan.expected.entries);
     assert_eq!(outcome.differences, plan.expected.differences);
+    assert_eq!(outcome.top, plan.expected.top);
 }

@@ -48,7 +48,7 @@ fn sections_that_are_read() {
     for &(label, reads, entries, differences) in READS {
         let case = cases.labelled(label);
         let letters = reads.concat().len() as u64;
-        let counts = [reads.len() as u64, letters, entries, differences];
+        let counts = [reads.len() as u64, letters, entries, differences, 0];
         let reads = reads.iter().map(|read| read.to_string()).collect();
         let expected = (accepted(case.input.len() as u64, counts), reads);
         assert_eq!(run_decode(case), expected, "{label}");

@@ -28,6 +28,7 @@ fn sums(plans: &[Plan]) -> Outcome {
         letters: sum(&|expected| expected.letters.len() as u64),
         entries: sum(&|expected| expected.entries),
         differences: sum(&|expected| expected.differences),
+        top: sum(&|expected| expected.top),
         ..Outcome::default()
     }
 }

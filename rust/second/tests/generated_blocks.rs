@@ -1,8 +1,9 @@
 //! Property: a block built forward from fields decodes to the letters, ends,
 //! names and counts computed from those fields. Catches: a wrong turn of
 //! reverse reads, a position restarted at a group or by a raw read, fillers
-//! counted as differences, N laid under entries, a column of names read in
-//! another width, unread names read, and any misread field.
+//! counted as differences, N laid under entries, records of 31 entries
+//! miscounted, a column of names read in another width, unread names read, and
+//! any misread field.
 
 use second::corpus::Lent;
 use second::generator::*;
@@ -23,6 +24,7 @@ fn check(plan: &Plan) {
         letters: expected.letters.len() as u64,
         entries: expected.entries,
         differences: expected.differences,
+        top: expected.top,
         ..Outcome::default()
     };
     assert_eq!(outcome, wanted);
@@ -70,6 +72,37 @@ fn long_reads_and_large_references() {
         };
         check(&generate(&mut rng, shape));
     }
+}
+
+/// Records of 30 and of 31 entries, as global and as local ones, on both
+/// strands; with fillers, and with an N list.
+#[test]
+fn saturated_blocks() {
+    let mut rng = Prng::new(5);
+    // For each number of entries: forward and reverse global, forward and
+    // reverse local.
+    let mut met = [[0; 4]; 2];
+    let (mut fillers, mut with_n) = (0, 0);
+    for _ in 0..1000 {
+        let bases = rng.pick(&[31, 90, 300]);
+        let shape = Shape { bases, max_reads: 12, max_length: 90, max_carried: 0, max_name: 9 };
+        let reference = generate_reference(&mut rng, bases);
+        let plan = generate_saturated(&mut rng, shape, &reference);
+        check(&plan);
+        fillers += plan.expected.entries - plan.expected.differences;
+        for (read, record) in plan.groups.iter().flat_map(|group| &group.records).enumerate() {
+            let Some(number) = [30, 31].iter().position(|&count| record.entries.len() == count)
+            else {
+                continue;
+            };
+            let reverse = plan.groups[read / 8].bytes[1] & (0x80 >> (read % 8)) == 0;
+            let is_local = record.kind == RecordKind::Local;
+            met[number][2 * is_local as usize + reverse as usize] += 1;
+            with_n += !record.n_list.is_empty() as u32;
+        }
+    }
+    assert!(met.concat().iter().all(|&count| count > 50), "{met:?}");
+    assert!(fillers > 1000 && with_n > 200, "{fillers} {with_n}");
 }
 
 #[test]

@@ -20,7 +20,7 @@ fn example() -> Vec<u8> {
     block
 }
 
-const LINES: &str = "block 7 reads 1 letters 4 entries 1 differences 1\nACTT\n";
+const LINES: &str = "block 7 reads 1 letters 4 entries 1 differences 1 top 0\nACTT\n";
 
 #[test]
 fn the_example_prints_whole() {

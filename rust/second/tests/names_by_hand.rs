@@ -60,7 +60,8 @@ fn names_that_are_read() {
         let case = read.labelled(label);
         let (outcome, reads, given) = run_named(case);
         let count = reads.len() as u64;
-        assert_eq!(outcome, accepted(case.input.len() as u64, [count, count, 0, 0]), "{label}");
+        let counts = [count, count, 0, 0, 0];
+        assert_eq!(outcome, accepted(case.input.len() as u64, counts), "{label}");
         assert_eq!(given, names, "{label}");
         let case = judged.labelled(label);
         assert_eq!(validate_block(BASES, &REFERENCE, &case.input), outcome, "{label}");
@@ -133,7 +134,7 @@ fn full_names() {
 fn files() {
     let cases = Cases::of("validate");
     let judged = |label| validate(BASES, &REFERENCE, &cases.labelled(label).input);
-    let three = Outcome { blocks: 3, ..accepted(0, [3, 3, 0, 0]) };
+    let three = Outcome { blocks: 3, ..accepted(0, [3, 3, 0, 0, 0]) };
     assert_eq!(judged("names, names, unread names"), three);
     let refused = |block| refusal(NAMES_SECTION_INVALID, block, 0);
     assert_eq!(judged("second block's names refused"), refused(1));

@@ -133,7 +133,7 @@ fn records_that_are_read() {
     for &(label, reads, entries, differences) in READS.iter().chain([&edge]) {
         let case = cases.labelled(label);
         let letters = reads.concat().len() as u64;
-        let counts = [reads.len() as u64, letters, entries, differences];
+        let counts = [reads.len() as u64, letters, entries, differences, 0];
         let reads = reads.iter().map(|read| read.to_string()).collect();
         let expected = (accepted(case.input.len() as u64, counts), reads);
         assert_eq!(run_decode(case), expected, "{label}");
@@ -159,7 +159,7 @@ fn files() {
         let Case { call, input, .. } = cases.labelled(label);
         validate(call.bases, &call.reference, input)
     };
-    let two = Outcome { blocks: 2, ..accepted(0, [2, 9, 0, 0]) };
+    let two = Outcome { blocks: 2, ..accepted(0, [2, 9, 0, 0, 0]) };
     assert_eq!(judged("first step after a block with a reverse local read"), two);
     let refused = refusal(SPAN_OUTSIDE_REFERENCE, 1, 1);
     assert_eq!(judged("second block, stretch below 0"), refused);
@@ -173,7 +173,7 @@ fn records_that_are_written() {
         let call = &cases.labelled(label).call;
         let mut out = vec![FILL; call.capacity];
         let outcome = call.run(&mut out);
-        assert_eq!(outcome, accepted(outcome.length, [0; 4]), "{label}");
+        assert_eq!(outcome, accepted(outcome.length, [0; 5]), "{label}");
         assert!(out[outcome.length as usize..].iter().all(|&byte| byte == FILL), "{label}");
         assert_eq!(section(&out, 0), dna, "{label}");
         let mut lent = Lent::new(call.letters.len(), call.ends.len(), 16, 9);
@@ -268,7 +268,7 @@ fn a_long_stretch() {
     let down: String =
         (0..=65_535).rev().map(|index| ['T', 'G', 'C', 'A'][base(index) as usize]).collect();
     let (outcome, reads) = run_decode(case);
-    assert_eq!(outcome, accepted(case.input.len() as u64, [2, 65_540, 0, 0]));
+    assert_eq!(outcome, accepted(case.input.len() as u64, [2, 65_540, 0, 0, 0]));
     assert!(reads == [first, format!("C{down}")]);
 }
 

@@ -13,6 +13,7 @@ use second::*;
 fn sum(length: i32, dna: &[u8]) -> (u32, String, u64, u64) {
     let block = Hand::same(length, 1, dna, &dna[2..3]).bytes();
     let (outcome, letters) = read(&block);
+    assert_eq!(outcome.top, 0);
     (outcome.number, letters, outcome.entries, outcome.differences)
 }
 
@@ -118,9 +119,9 @@ fn words() {
     assert_eq!(lengths(&block.bytes()), Ok(vec![256, 32_768, 65_535]));
 }
 
-/// Entries and differences of a read whose lone difference is at `place`;
+/// Entries, differences and top of a read whose lone difference is at `place`;
 /// the flag byte tells whether it was placed.
-fn lone_difference(place: usize) -> (u8, u64, u64) {
+fn lone_difference(place: usize) -> (u8, u64, u64, u64) {
     let reference = generate_reference(&mut Prng::new(2), 2000);
     let mut letters = reference.letters.clone();
     letters[place] = if letters[place] == b'A' { b'C' } else { b'A' };
@@ -130,16 +131,17 @@ fn lone_difference(place: usize) -> (u8, u64, u64) {
     assert_eq!(call.run(&mut out).number, 0);
     let outcome = validate_block(2000, &reference.bytes, &out);
     assert_eq!(outcome.number, 0);
-    (section(&out, 0)[4] & 7, outcome.entries, outcome.differences)
+    (section(&out, 0)[4] & 7, outcome.entries, outcome.differences, outcome.top)
 }
 
 #[test]
 fn lone_differences() {
-    assert_eq!(lone_difference(0), (4, 1, 1));
-    assert_eq!(lone_difference(63), (4, 1, 1));
-    assert_eq!(lone_difference(64), (4, 2, 1));
-    assert_eq!(lone_difference(126), (4, 2, 1));
-    assert_eq!(lone_difference(127), (4, 3, 1));
-    assert_eq!(lone_difference(1953), (4, 31, 1));
-    assert_eq!(lone_difference(1954), (2, 0, 0));
+    assert_eq!(lone_difference(0), (4, 1, 1, 0));
+    assert_eq!(lone_difference(63), (4, 1, 1, 0));
+    assert_eq!(lone_difference(64), (4, 2, 1, 0));
+    assert_eq!(lone_difference(126), (4, 2, 1, 0));
+    assert_eq!(lone_difference(127), (4, 3, 1, 0));
+    assert_eq!(lone_difference(1890), (4, 30, 1, 0));
+    assert_eq!(lone_difference(1953), (4, 31, 1, 1));
+    assert_eq!(lone_difference(1954), (2, 0, 0, 0));
 }

@@ -16,7 +16,7 @@ fn written(label: &str) -> Vec<u8> {
     let call = &cases.labelled(label).call;
     let mut out = vec![FILL; call.capacity];
     let outcome = call.run(&mut out);
-    assert_eq!(outcome, accepted(outcome.length, [0; 4]), "{label}");
+    assert_eq!(outcome, accepted(outcome.length, [0; 5]), "{label}");
     let past = out.split_off(outcome.length as usize);
     assert!(past.iter().all(|&byte| byte == FILL), "{label}");
     let (letters, ends) = (call.letters.len(), call.ends.len());

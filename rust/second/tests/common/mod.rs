@@ -149,6 +149,6 @@ pub fn refusal(number: u32, block: u64, read: u64) -> Outcome {
 }
 
 /// A block of so many bytes, with its counts.
-pub fn accepted(length: u64, [reads, letters, entries, differences]: [u64; 4]) -> Outcome {
-    Outcome { length, reads, letters, entries, differences, ..Outcome::default() }
+pub fn accepted(length: u64, [reads, letters, entries, differences, top]: [u64; 5]) -> Outcome {
+    Outcome { length, reads, letters, entries, differences, top, ..Outcome::default() }
 }
