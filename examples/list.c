@@ -34,8 +34,8 @@ static int refused(uint64_t number, uint64_t block, uint64_t read) {
 static void print_block(uint64_t id, const uint64_t answer[ORA_ANSWER_SLOTS]) {
     printf("block %" PRIu64 " reads %" PRIu64 " letters %" PRIu64, id, answer[ORA_READS],
            answer[ORA_LETTERS]);
-    printf(" entries %" PRIu64 " differences %" PRIu64 "\n", answer[ORA_ENTRIES],
-           answer[ORA_DIFFERENCES]);
+    printf(" entries %" PRIu64 " differences %" PRIu64 " top %" PRIu64 "\n", answer[ORA_ENTRIES],
+           answer[ORA_DIFFERENCES], answer[ORA_TOP]);
     uint32_t start = 0;
     for (uint64_t read = 0; read < answer[ORA_READS]; read++) {
         printf("%.*s\n", (int)(ends[read] - start), (const char *)letters + start);

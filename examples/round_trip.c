@@ -67,7 +67,7 @@ int main(void) {
                         read_ends, READS, read_names, NAMES, read_name_ends, READS, answer);
     printf("read: %" PRIu64 ", %" PRIu64 " reads, %" PRIu64 " letters, %" PRIu64 " entries, ",
            number, answer[ORA_READS], answer[ORA_LETTERS], answer[ORA_ENTRIES]);
-    printf("%" PRIu64 " difference\n", answer[ORA_DIFFERENCES]);
+    printf("%" PRIu64 " difference, top %" PRIu64 "\n", answer[ORA_DIFFERENCES], answer[ORA_TOP]);
     if (number != ORA_ACCEPTED || (block[ORA_FLAGS_OFFSET] & ORA_FLAG_NAMES) == 0) {
         return 1;
     }

@@ -61,7 +61,7 @@ sed -n '/^enum ora_refusal {/,/^};/s/^ *\(ORA_[A-Z0-9_]* = [1-9][0-9]*\),\{0,1\}
   awk '
   BEGIN {
     split("number REFUSAL block BLOCK_INDEX read READ_INDEX blocks BLOCKS bytes BLOCK_LENGTH offset OFFSET size LENGTH " \
-      "reads READS letters LETTERS entries ENTRIES differences DIFFERENCES", pairs, " ")
+      "reads READS letters LETTERS entries ENTRIES differences DIFFERENCES top TOP", pairs, " ")
     for (k = 1; pairs[k] != ""; k += 2) name[pairs[k]] = pairs[k + 1]
   }
   / =$|^sectionSlots span = / { open = /^slots outcome|^sectionSlots span/; slot = -1 }

@@ -34,7 +34,12 @@
  *   5     letters              letters             0                   0
  *   6     entries              entries             0                   0
  *   7     differences          differences         0                   0
- *   8-15  0                    0                   0                   0
+ *   8     top                  top                 0                   0
+ *   9-15  0                    0                   0                   0
+ *
+ * Top is the number of reads whose record has exactly 31 entries, the most that a record can have;
+ * fillers and entries under an N are entries too. A read that would take more at its place is
+ * stored without one, has no entries and is not counted.
  *
  * The indices count from 0 and are 0 where the call accepts. The read index is that of the read
  * whose record is refused, counted inside its block; that of a group's first read where the group's
@@ -48,7 +53,7 @@
 #include <stdint.h>
 
 /* Raised whenever a function of this file changes, in its arguments or in its answers. */
-#define ORA_INTERFACE_VERSION 3
+#define ORA_INTERFACE_VERSION 4
 
 #define ORA_ANSWER_SLOTS 16
 
@@ -72,7 +77,8 @@ enum ora_slot {
     ORA_LENGTH = 4, /* ora_section */
     ORA_LETTERS = 5,
     ORA_ENTRIES = 6,
-    ORA_DIFFERENCES = 7
+    ORA_DIFFERENCES = 7,
+    ORA_TOP = 8
 };
 
 /* The sections of a block, in the order in which they follow the header. */
@@ -190,7 +196,7 @@ enum ora_refusal {
  * no room.
  *
  * Refusals 1 to 21, 40, 22, in this order. Answer: length of the block in bytes, reads, letters,
- * entries, differences.
+ * entries, differences, top.
  */
 uint64_t ora_decode(uint64_t bases, const uint8_t *reference, size_t reference_len,
                     const uint8_t *input, size_t input_len,
@@ -216,7 +222,7 @@ uint64_t ora_validate_block(uint64_t bases, const uint8_t *reference, size_t ref
  * alone.
  *
  * Refusals 1 to 21 and 40, with the index of the refused block. Answer: number of blocks, and the
- * sums of reads, letters, entries and differences.
+ * sums of reads, letters, entries, differences and top.
  */
 uint64_t ora_validate(uint64_t bases, const uint8_t *reference, size_t reference_len,
                       const uint8_t *file, size_t file_len,

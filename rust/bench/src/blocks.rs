@@ -1,11 +1,11 @@
 //! Measures the library on whole blocks against the second implementation, hand-tuned unsafe Rust
 //! and a copy of the same letters (ways.rs). All are compared before anything is timed.
-use crate::tuned::{self, Tables};
+use crate::tuned::{self, Counts, Tables, SLACK};
 use crate::ways::*;
 use crate::works::{reference, Shape, Work};
 use crate::{timed, title_row};
 use ora::Reference;
-use second::generator::{generate, Shape as Small};
+use second::generator::{generate_reference, generate_saturated, generate_under, Shape as Small};
 use second::mutators::damage;
 use second::prng::Prng;
 use std::hint::black_box;
@@ -16,7 +16,7 @@ const PASSES: usize = 121;
 /// The second implementation is slow: it is timed once in so many passes.
 const SECOND_EVERY: usize = 6;
 
-/// The damaged blocks on which the hand-tuned validator is compared.
+/// The small blocks on which the hand-tuned validator and decoder are compared.
 const DAMAGED: usize = 20_000;
 
 /// The bytes of the reference: one that stays in the cache, and one that does not.
@@ -53,9 +53,10 @@ const WAYS: [Way; 11] = [
 ];
 
 /// On small blocks, damaged and not, the hand-tuned validator accepts what the library accepts,
-/// with the same counts.
-fn compare_damaged(random: &mut Prng) {
-    let mut accepted = 0;
+/// with the same counts, and the hand-tuned decoder gives the same. In some most records have 30 or
+/// 31 entries.
+fn compare_damaged(random: &mut Prng, tables: &Tables) {
+    let (mut accepted, mut with_top) = (0, 0);
     for round in 0..DAMAGED {
         let shape = Small {
             bases: random.pick(&[12, 100, 300, 70_000]),
@@ -64,7 +65,12 @@ fn compare_damaged(random: &mut Prng) {
             max_carried: 2,
             max_name: random.pick(&[4, 40]),
         };
-        let plan = generate(random, shape);
+        let reference = generate_reference(random, shape.bases);
+        let plan = if shape.max_length > 31 && random.once_in(3) {
+            generate_saturated(random, shape, &reference)
+        } else {
+            generate_under(random, shape, &reference)
+        };
         let mut block = plan.block();
         if round % 4 != 0 {
             damage(&mut block, random);
@@ -76,9 +82,40 @@ fn compare_damaged(random: &mut Prng) {
         let tuned =
             unsafe { tuned::validate::validate(reference.bases(), reference.bytes(), &block) };
         assert!(tuned == library, "block {round}: {tuned:?}, not {library:?}");
-        accepted += library.is_some() as usize;
+        let Some(counts) = library else { continue };
+        accepted += 1;
+        let [.., top] = counts;
+        with_top += (top > 0) as usize;
+        let decoded = ora::decode(&reference, &block).expect("the block is accepted");
+        let (tuned, letters, ends) = trusting(&reference, &block, counts, tables);
+        assert!(tuned == counts, "block {round}: {tuned:?}, not {counts:?}");
+        assert!(letters == decoded.letters() && ends == decoded.ends(), "block {round}");
     }
     assert!(DAMAGED / 5 < accepted && accepted < DAMAGED / 2, "{accepted} blocks are accepted");
+    assert!(with_top > DAMAGED / 100, "{with_top} blocks have a record of 31 entries");
+}
+
+/// What the decoder that trusts its block makes of one with these counts.
+fn trusting(
+    reference: &Reference,
+    block: &[u8],
+    [reads, letters, ..]: Counts,
+    tables: &Tables,
+) -> (Counts, Vec<u8>, Vec<u32>) {
+    let spare = [0; SLACK];
+    let padded = [&spare, reference.bytes(), &spare].concat();
+    let longer = [block, &spare].concat();
+    let block = &longer[..block.len()];
+    let mut to = vec![0; letters as usize + SLACK];
+    let mut ends = vec![0; reads as usize];
+    // SAFETY: the block is well-formed, and it, its reference and the letters have SLACK bytes to
+    // spare.
+    let counts = unsafe {
+        let bases = padded.as_ptr().add(SLACK);
+        tuned::decode::decode(bases, block, tables, to.as_mut_ptr(), ends.as_mut_ptr())
+    };
+    to.truncate(letters as usize);
+    (counts, to, ends)
 }
 
 /// The best time of each way over all passes.
@@ -176,8 +213,8 @@ fn aim_cell(ratio: f64, at_least: bool, aim: Option<f64>) -> String {
 
 pub fn print_tables() {
     let random = &mut Prng::new(5);
-    compare_damaged(random);
     let tables = Tables::new();
+    compare_damaged(random, &tables);
     let padded = reference(LARGE, random);
     let mut times = Vec::new();
     for shape in &COLUMNS {

@@ -7,9 +7,11 @@ pub mod validate;
 /// How many bytes a peer may read around the reference, and write past its letters or its block.
 pub const SLACK: usize = 64;
 
-/// The counts of a block: reads, letters, entries, differences.
-pub type Counts = [u64; 4];
+/// The counts of a block: reads, letters, entries, differences, top.
+pub type Counts = [u64; 5];
 
+/// The most entries that a record can have.
+const MAX_ENTRIES: usize = 31;
 const WORD_ESCAPE: usize = 32768;
 const MAX_READ_LENGTH: usize = 100_000;
 

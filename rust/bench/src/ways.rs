@@ -79,7 +79,7 @@ fn reference_of<'a>(work: &Work<'a>) -> Reference<'a> {
 
 pub fn counts_of(summary: BlockSummary) -> Counts {
     let counts = summary.counts;
-    [counts.reads, counts.letters, counts.entries, counts.differences]
+    [counts.reads, counts.letters, counts.entries, counts.differences, counts.top]
 }
 
 pub fn proved_validate(work: &Work, _: &Tables, _: &mut Buffers) -> Outcome {
@@ -135,7 +135,7 @@ pub fn tuned_encode(work: &Work, tables: &Tables, to: &mut Buffers) -> Outcome {
 }
 
 fn second_counts(outcome: second::Outcome) -> Counts {
-    [outcome.reads, outcome.letters, outcome.entries, outcome.differences]
+    [outcome.reads, outcome.letters, outcome.entries, outcome.differences, outcome.top]
 }
 
 pub fn second_validate(work: &Work, _: &Tables, _: &mut Buffers) -> Outcome {

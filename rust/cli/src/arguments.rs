@@ -83,8 +83,8 @@ pub struct EncodeArguments {
     /// Store no names
     #[arg(long)]
     pub no_names: bool,
-    /// Also count how many reads are stored perfect, global, local and raw; this takes longer, as
-    /// the library is asked about each read
+    /// Also count how many reads are stored perfect, global, local and raw, and raw for more than 31
+    /// entries at their place; this takes longer, as the library is asked about each read
     #[arg(long)]
     pub kinds: bool,
     #[command(flatten)]
@@ -162,8 +162,10 @@ pub struct ListArguments {
 }
 
 const LIST: &str = "\
-The text is that of the listing program, without names. The last line is `end blocks` and their
-number, or `refused`, the number of the refusal, and the index of the block and of the read.
+The text is that of the listing program, without names. The last number of a block's line, top, is
+that of its reads with 31 entries, the most that a record can have. The last line is `end blocks`
+and their number, or `refused`, the number of the refusal, and the index of the block and of the
+read.
 
 Example:
   frubanto list -r genome.ref reads.ora";
@@ -185,9 +187,10 @@ pub struct ValidateArguments {
 }
 
 const VALIDATE: &str = "\
-Of an accepted file the number of blocks, reads, letters, entries and differences is said; of a
-refused one the number of the refusal in words, the index of the block and of the read, and where
-the block begins in the file. Every file is judged; the exit status is the highest.
+Of an accepted file the number of blocks, reads, letters, entries and differences is said, and as
+top that of the reads with 31 entries, the most that a record can have; of a refused one the number
+of the refusal in words, the index of the block and of the read, and where the block begins in the
+file. Every file is judged; the exit status is the highest.
 
 Example:
   frubanto validate -r genome.ref monday.ora tuesday.ora

@@ -6,7 +6,9 @@
 mod common;
 use common::*;
 use ora::{Candidate, Reads, Reference};
+use second::blocks::read_block;
 use second::prng::Prng;
+use second::records::{Kind, Record};
 use std::fs;
 
 /// A genome of some sequences, its reference, and records mapped to it.
@@ -74,15 +76,16 @@ impl Simulated {
         self.sam.push_str(&line);
     }
 
-    /// A read that the format can say: a stretch with differences, N and clips.
+    /// A read with a place: a stretch with few differences or many, N and clips.
     fn add_placed(&mut self, rng: &mut Prng) {
         let sequence = rng.pick(&[0usize, 2, 3]);
         let letters = self.sequences[sequence].1.clone();
         let aligned = rng.range(1, 150) as usize;
         let position = rng.below((letters.len() - aligned) as u64 + 1) as usize;
         let mut seq = letters[position..position + aligned].to_vec();
+        let apart = rng.pick(&[60, 60, 60, 2]);
         for letter in &mut seq {
-            if rng.once_in(60) {
+            if rng.once_in(apart) {
                 *letter = rng.pick(b"ACGTN");
             }
         }
@@ -180,6 +183,21 @@ fn mixed(name: &str, seed: u64, records: usize) -> Simulated {
     simulated
 }
 
+/// The records of the blocks of a file, as the second implementation reads them.
+fn records(reference_file: &[u8], file: &[u8]) -> Vec<Record> {
+    let (bases, bytes) = reference_file.split_first_chunk().unwrap();
+    let reference = second::reference::Reference::new(u64::from_le_bytes(*bases), bytes);
+    let (reference, mut rest, mut records) = (reference.ok().unwrap(), file, Vec::new());
+    while !rest.is_empty() {
+        let block = read_block(&reference, rest).ok().unwrap();
+        rest = &rest[block.length as usize..];
+        records.extend(block.records);
+    }
+    records
+}
+
+const TOO_MANY_ENTRIES: &str = "stored raw with a place: more than 31 entries";
+
 /// The number before these words in a summary.
 #[track_caller]
 fn counted(ran: &Ran, words: &str) -> u64 {
@@ -220,6 +238,7 @@ fn the_blocks_are_those_of_the_library() {
 
 #[test]
 fn every_record_is_accounted_for() {
+    let (mut all_too_many, mut all_full) = (0, 0);
     for seed in 2..8 {
         let simulated = mixed("encode_counts", seed, 500);
         let (sam, output) = (simulated.write_sam(), simulated.folder.path("reads.ora"));
@@ -241,9 +260,22 @@ fn every_record_is_accounted_for() {
             ["perfect", "global", "local", "raw"].map(|kind| count(&format!("stored {kind}")));
         assert_eq!(kinds.iter().sum::<u64>(), count("reads"));
         assert!(kinds.iter().all(|&kind| kind > 0), "{kinds:?}");
+        let folder = &simulated.folder;
+        let records = records(&folder.read("genome.ref"), &folder.read("reads.ora"));
+        let is_raw = |record: &Record| matches!(record.kind, Kind::Raw(_));
+        let of_reads = records.iter().zip(&simulated.reads);
+        let too_many = of_reads
+            .filter(|(record, (_, candidate))| is_raw(record) && candidate.strand.is_some())
+            .count();
+        assert_eq!(count(TOO_MANY_ENTRIES), too_many as u64);
+        let full = records.iter().filter(|record| record.entries().len() == 31).count();
         let validated = run(&["validate", "-r", &simulated.reference, &output]).accepted();
         assert!(validated.text().contains(&format!(", reads {},", simulated.reads.len())));
+        assert!(validated.text().ends_with(&format!(", top {full}\n")));
+        all_too_many += too_many;
+        all_full += full;
     }
+    assert!(all_too_many > 50 && all_full > 3, "{all_too_many} {all_full}");
 }
 
 #[test]
@@ -407,6 +439,48 @@ fn places_that_are_used() {
     let seq = letters(0, 100, 300);
     let record = format!("r\t16\tchr0\t1\t0\t300M\t*\t0\t0\t{seq}\t*");
     assert_eq!(kinds(&[&record]), [0, 0, 0, 1]);
+}
+
+/// The reads at the end of the scale are counted by top, and those past it by the summary.
+#[test]
+fn more_than_31_entries() {
+    let simulated = Simulated::new("encode_entries", 12);
+    // A read on chr0 whose first letters differ and whose last are N, as SAM has it.
+    let record = |flag: u32, differing: usize, ambiguous: usize| {
+        let turn = |letters: &[u8]| match flag {
+            16 => complement(letters),
+            _ => letters.to_vec(),
+        };
+        let mut read = turn(&simulated.sequences[0].1[99..299]);
+        read[..differing].iter_mut().for_each(|letter| *letter = complement(&[*letter])[0]);
+        read[200 - ambiguous..].fill(b'N');
+        let seq = String::from_utf8(turn(&read)).unwrap();
+        format!("r\t{flag}\tchr0\t100\t60\t200M\t*\t0\t0\t{seq}\t*")
+    };
+    let counts = |records: &[&str]| {
+        let (ran, _) = encode(&simulated, records, &["--kinds"]);
+        let ran = ran.accepted();
+        let output = simulated.folder.path("some.ora");
+        let validated = run(&["validate", "-r", &simulated.reference, &output]).accepted();
+        let top = validated.text().trim_end().rsplit(' ').next().unwrap().parse().unwrap();
+        let stored = ["stored global", "stored raw", TOO_MANY_ENTRIES];
+        let [global, raw, too_many] = stored.map(|words| counted(&ran, words));
+        [global, raw, too_many, top]
+    };
+    for flag in [0, 16] {
+        assert_eq!(counts(&[&record(flag, 30, 0)]), [1, 0, 0, 0]);
+        assert_eq!(counts(&[&record(flag, 31, 0)]), [1, 0, 0, 1]);
+        assert_eq!(counts(&[&record(flag, 32, 0)]), [0, 1, 1, 0]);
+        assert_eq!(counts(&[&record(flag, 40, 0)]), [0, 1, 1, 0]);
+        // More than 31 N make a raw4 read, whatever its place.
+        assert_eq!(counts(&[&record(flag, 40, 31)]), [0, 1, 1, 0]);
+        assert_eq!(counts(&[&record(flag, 40, 32)]), [0, 1, 0, 0]);
+        assert_eq!(counts(&[&record(flag, 0, 32)]), [0, 1, 0, 0]);
+    }
+    let unmapped = record(4, 40, 0);
+    assert_eq!(counts(&[&unmapped]), [0, 1, 0, 0]);
+    let all = [&record(0, 40, 0), &unmapped, &record(16, 0, 32), &record(0, 31, 0)];
+    assert_eq!(counts(&all.map(|record| &record[..])), [1, 3, 1, 1]);
 }
 
 #[test]

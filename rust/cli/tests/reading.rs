@@ -4,6 +4,8 @@
 
 mod common;
 use common::*;
+use second::cases_by_hand::Hand;
+use second::letters::pack;
 use second::listing::listing;
 use second::mutators::{damage, spoil};
 use second::prng::Prng;
@@ -22,7 +24,7 @@ fn the_sample_block() {
     let named = run(&["decode", "-r", &reference, "--names", &blocks]).accepted();
     assert_eq!(named.text(), "0.0\tACTT\n");
     let validated = run(&["validate", "-r", &reference, &blocks]).accepted();
-    let counts = "blocks 1, reads 1, letters 4, entries 1, differences 1";
+    let counts = "blocks 1, reads 1, letters 4, entries 1, differences 1, top 0";
     assert_eq!(validated.text(), format!("{blocks}: accepted, {counts}\n"));
     let table = run(&["blocks", &blocks]).accepted();
     let rows: Vec<Vec<&str>> =
@@ -47,7 +49,7 @@ fn the_empty_file() {
     let validated = run(&["validate", "-r", &reference, &blocks]).accepted();
     assert!(validated
         .text()
-        .ends_with(": accepted, blocks 0, reads 0, letters 0, entries 0, differences 0\n"));
+        .ends_with(": accepted, blocks 0, reads 0, letters 0, entries 0, differences 0, top 0\n"));
     assert_eq!(run(&["blocks", &blocks]).accepted().text().lines().count(), 1);
     // The empty file is refused with its reference.
     let wrong = folder.write("wrong", reference_file(13, &[0x1B, 0x1B, 0xE4]));
@@ -84,10 +86,11 @@ fn files_of_generated_blocks() {
             assert_eq!(with(&["decode", "--fasta", "--names"]).text(), fasta);
             assert_eq!(with(&["decode", "--names"]).text(), table);
             let judged = second::validate(300, &generated.reference.bytes, &file);
-            let second::Outcome { blocks, reads, letters, entries, differences, .. } = judged;
+            let second::Outcome { blocks, reads, letters, entries, differences, top, .. } = judged;
+            assert!(top > 0);
             assert!(with(&["validate"]).text().ends_with(&format!(
                 ": accepted, blocks {blocks}, reads {reads}, letters {letters}, \
-                 entries {entries}, differences {differences}\n"
+                 entries {entries}, differences {differences}, top {top}\n"
             )));
         }
     }
@@ -140,6 +143,63 @@ fn the_table_of_generated_blocks() {
         offset += length;
     }
     assert_eq!(rows.next(), None);
+}
+
+/// Three reads of 64 letters on ACGT, 25 times: one of 31 entries, of which every fifth is a filler
+/// and another stands under an N; one of 30; a raw one that differs at 40 letters.
+fn block_with_top_1() -> Vec<u8> {
+    let code = |place: usize, differs: bool| ((place + usize::from(differs)) % 4) as u8;
+    let entry = |place: usize, differs| u8::from(place > 0) << 2 | code(place, differs);
+    let codes: Vec<u8> = (0..64).map(|place| code(place, place < 40)).collect();
+    let dna = [
+        vec![0, 0xC0, 0x80, 0],
+        vec![31 << 3 | 0b100, 0, 0, 0, 0],
+        (0..31).map(|place| entry(place, place % 5 != 0)).collect(),
+        vec![1, 3, 0],
+        vec![30 << 3 | 0b100, 0, 0, 0, 0],
+        (0..30).map(|place| entry(place, true)).collect(),
+        vec![0b010],
+        pack(&codes, 2),
+    ];
+    Hand::same(64, 3, &dna.concat()).bytes()
+}
+
+#[test]
+fn reads_with_31_entries() {
+    let folder = Folder::new("top");
+    let (bytes, block) = (reference_file(100, &[0x1B; 25]), block_with_top_1());
+    let reference = folder.write("ref", &bytes);
+    let one = folder.write("one.ora", &block);
+    let two = folder.write("two.ora", block.repeat(2));
+    let cut = folder.write("cut.ora", &block.repeat(2)[..2 * block.len() - 1]);
+
+    let line = "block 7 reads 3 letters 192 entries 61 differences 53 top 1";
+    let listed = run(&["list", "-r", &reference, &two]).accepted();
+    assert_eq!(listed.text(), listing(&bytes, &block.repeat(2)));
+    let lines: Vec<&str> = listed.text().lines().collect();
+    assert_eq!((lines[0], lines[4], lines[8]), (line, line, "end blocks 2"));
+    let refused = run(&["list", "-r", &reference, &cut]).failed(1, "refused 8, block 1, read 0");
+    assert_eq!(refused.text().lines().filter(|&other| other == line).count(), 1);
+    assert!(refused.text().ends_with("\nrefused 8 1 0\n"));
+
+    for threads in ["1", "3"] {
+        let validate = ["validate", "--threads", threads, "-r", &reference, &one, &two, &cut];
+        let validated = run(&validate);
+        assert_eq!(validated.status, Some(1));
+        let lines: Vec<&str> = validated.text().lines().collect();
+        let counts = "blocks 1, reads 3, letters 192, entries 61, differences 53, top 1";
+        assert_eq!(lines[0], format!("{one}: accepted, {counts}"));
+        let counts = "blocks 2, reads 6, letters 384, entries 122, differences 106, top 2";
+        assert_eq!(lines[1], format!("{two}: accepted, {counts}"));
+        assert!(lines[2].starts_with(&format!("{cut}: refused 8, block 1, read 0, ")));
+        assert!(!lines[2].contains(", top "));
+
+        let json = run(&[&validate[..], &["--json"]].concat());
+        let objects: Vec<&str> = json.text().lines().collect();
+        assert!(objects[0].contains("\"differences\":53,\"top\":1,\"refusal\":null"));
+        assert!(objects[1].contains("\"differences\":106,\"top\":2,\"refusal\":null"));
+        assert!(objects[2].contains("\"differences\":0,\"top\":0,\"refusal\":{\"number\":8,"));
+    }
 }
 
 /// Decodes, lists and validates a file in which one block is refused.
@@ -305,10 +365,10 @@ fn several_files_are_all_judged() {
         json.text(),
         format!(
             "{{\"file\":\"{}\",\"accepted\":true,\"blocks\":2,\"reads\":2,\"letters\":8,\"entries\":2,\
-             \"differences\":2,\"refusal\":null}}\n{{\"file\":\"{}\",\"accepted\":false,\"blocks\":0,\
-             \"reads\":0,\"letters\":0,\"entries\":0,\"differences\":0,\"refusal\":{{\"number\":17,\
-             \"name\":\"EntryOffsetInvalid\",\"reason\":\"{why}\",\"block\":1,\"read\":0,\
-             \"offset\":132}}}}\n",
+             \"differences\":2,\"top\":0,\"refusal\":null}}\n{{\"file\":\"{}\",\"accepted\":false,\
+             \"blocks\":0,\"reads\":0,\"letters\":0,\"entries\":0,\"differences\":0,\"top\":0,\
+             \"refusal\":{{\"number\":17,\"name\":\"EntryOffsetInvalid\",\"reason\":\"{why}\",\
+             \"block\":1,\"read\":0,\"offset\":132}}}}\n",
             quoted(&good),
             quoted(&bad)
         )

@@ -12,6 +12,7 @@ type Family = (u64, &'static str, fn(&mut Prng, &Stock) -> Work);
 
 const FAMILIES: &[Family] = &[
     (900, "sound block", readings::sound),
+    (150, "saturated records", readings::saturated),
     (2600, "one fault", readings::one_fault),
     (700, "two faults", readings::two_faults),
     (400, "too little room", readings::little_room),
@@ -33,6 +34,7 @@ const FAMILIES: &[Family] = &[
     (120, "long reads", lengths::long_reads),
     (12, "many reads", lengths::many_reads),
     (300, "sound file", files::sound_file),
+    (100, "file of saturated records", files::saturated_file),
     (400, "file with a fault", files::file_with_fault),
     (250, "damaged file", files::damaged_file),
     (200, "cut file", files::cut_file),
@@ -45,6 +47,7 @@ const FAMILIES: &[Family] = &[
     (250, "written steps of names", writings::names::steps),
     (50, "long names, written", writings::names::long),
     (250, "gaps", writings::gaps),
+    (100, "written saturated records", writings::saturated::saturated),
     (150, "written steps", writings::steps),
     (100, "written steps of clipped reads", writings::clipped_steps),
     (80, "written on the largest reference", writings::on_the_largest),

@@ -143,9 +143,9 @@ impl Library for Second {
 
 /// Slot 3 is the block's length or the number of blocks.
 fn fill(answer: &mut Answer, outcome: Outcome, third: u64) -> u64 {
-    let Outcome { number, block, read, reads, letters, entries, differences, .. } = outcome;
+    let Outcome { number, block, read, reads, letters, entries, differences, top, .. } = outcome;
     *answer = [0; raw::SLOTS];
-    let slots = [number as u64, block, read, third, reads, letters, entries, differences];
-    answer[..8].copy_from_slice(&slots);
+    let slots = [number as u64, block, read, third, reads, letters, entries, differences, top];
+    answer[..9].copy_from_slice(&slots);
     number as u64
 }

@@ -3,6 +3,8 @@
 
 mod names;
 mod reverse;
+mod saturated;
+mod walk;
 
 use crate::case::{Reading, Sizes, Writing, ENDS, NAMES, NAME_ENDS};
 use crate::paths::Path;
@@ -46,6 +48,8 @@ pub fn of_reading(
     tally.path_if(Path::FileJoined, file[0] == 0 && file[3] >= 2);
     tally.path_if(Path::FileLaterBlock, file[0] != 0 && file[1] > 0);
     tally.path_if(Path::RefusedAfter100, judged[2] >= 100);
+    saturated::of_answers(judged, file, decoded, tally);
+    saturated::of_refused(reading, judged, tally);
     match judged[0] {
         5 => tally.path_if(Path::NegativeHeader, i32_at(input, 2) < 0),
         7 => tally.path_if(Path::NegativeReads, i32_at(input, 50) < 0),
@@ -191,6 +195,7 @@ fn of_placed(reference: &Reference, record: &Record, place: &Placement, tally: &
     tally.path_if(Path::EntryOnLast, full && on_last);
     let under_n = |place_of: u64| record.n_positions.contains(&(place.left + place_of));
     tally.path_if(Path::EntryUnderN, entries.iter().any(|entry| under_n(entry.place)));
+    saturated::of_placed(reference, record, tally);
     let far = entries.windows(2).any(|pair| pair[1].place == pair[0].place + 63);
     tally.path_if(Path::Offset63, far);
     let alone = !entries.is_empty() && record.n_positions.is_empty();
@@ -218,7 +223,13 @@ pub fn of_writing(writing: &Writing, block: &[u8], tally: &mut Tally) {
             Kind::Raw4(_) => Path::WrittenRaw4,
         });
         match &record.kind {
-            Kind::Raw(_) => tally.path(why_raw(writing, index, record.length)),
+            Kind::Raw(_) => {
+                let reason = why_raw(writing, index, record.length);
+                tally.path(reason);
+                if reason == Path::TooManyEntries {
+                    saturated::of_too_many(&reference, writing, index, tally);
+                }
+            }
             Kind::Raw4(codes) => {
                 let ambiguous = codes.iter().filter(|&&code| code == 4).count();
                 tally.path_if(Path::WrittenN32, ambiguous == 32);
@@ -255,7 +266,7 @@ fn of_entries(reference: &Reference, record: &Record, tally: &mut Tally) {
     let (Some(place), Some((lowest, span))) = (record.placement(), record.stretch()) else {
         return;
     };
-    tally.path_if(Path::Written31, record.entries().len() == 31);
+    saturated::of_written(reference, record, tally);
     if record.entries().is_empty() {
         return;
     }

@@ -10,9 +10,9 @@ pub mod steps;
 
 use crate::case::{bytes, Bytes, Reading, Room, Work, ENDS, LETTERS, NAMES, NAME_ENDS};
 use crate::stock::Stock;
-use second::generator::{generate, Plan, Shape};
+use second::generator::{generate, generate_reference, generate_saturated, Plan, Shape};
 use second::header::{Header, SECTIONS};
-use second::mutators::{damage, spoil_all, BLOCK_NUMBERS};
+use second::mutators::{damage, spoil, spoil_all, BLOCK_NUMBERS};
 use second::prng::Prng;
 use second::NAMES_SECTION_INVALID;
 
@@ -68,6 +68,24 @@ fn of_plan(rng: &mut Prng, plan: &Plan) -> Work {
 
 pub fn sound(rng: &mut Prng, _: &Stock) -> Work {
     let plan = small_plan(rng);
+    of_plan(rng, &plan)
+}
+
+/// Most global and local records have 30 or 31 entries; now and then there is a fault.
+pub fn saturated(rng: &mut Prng, _: &Stock) -> Work {
+    let shape = Shape {
+        bases: rng.pick(&[31, 64, 130, 300, 700]),
+        max_reads: rng.pick(&[1, 2, 9, 20]),
+        max_length: rng.pick(&[31, 40, 70, 200]),
+        max_carried: 2,
+        max_name: 12,
+    };
+    let reference = generate_reference(rng, shape.bases);
+    let mut plan = generate_saturated(rng, shape, &reference);
+    if rng.once_in(3) {
+        let number = rng.pick(&BLOCK_NUMBERS[8..]);
+        spoil(&mut plan, number, rng);
+    }
     of_plan(rng, &plan)
 }
 

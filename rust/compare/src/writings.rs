@@ -2,6 +2,7 @@
 //! proposals, and reads made here for the edges of the fixed rule.
 
 pub mod names;
+pub mod saturated;
 
 use crate::case::{Work, Writing};
 use crate::stock::Stock;

@@ -127,6 +127,17 @@ fn accepted(answer: &Answer) -> bool {
     answer[0] == 0
 }
 
+/// The entries of the first record of an accepted block with reads.
+fn first_count(input: &[u8]) -> u8 {
+    let dna = second::section(input, 0);
+    let perfect = dna[0] >= 0x80;
+    if perfect {
+        0
+    } else {
+        dna[4] >> 3
+    }
+}
+
 #[test]
 fn nothing_is_found_in_what_is_right() {
     assert!(found(&Stock::new(), &Wrong::default(), 2_000).is_none());
@@ -136,19 +147,25 @@ fn nothing_is_found_in_what_is_right() {
 #[test]
 fn slots() {
     let stock = &Stock::new();
-    let decode: [SpoilDecode; 7] = [
+    let decode: [SpoilDecode; 11] = [
         |answer, _| answer[0] += (answer[0] == 17) as u64,
         |answer, _| answer[0] -= (answer[0] == 40) as u64,
         |answer, _| answer[1] += (answer[0] == 12) as u64,
         |answer, _| answer[2] += (answer[0] == 13) as u64,
         |answer, _| answer[3] += accepted(answer) as u64,
         |answer, _| answer[7] += accepted(answer) as u64,
+        // A library of four counts, one that counts a block's reads with 31 entries once, one that
+        // leaves top in a refusal.
+        |answer, _| answer[8] = 0,
+        |answer, _| answer[8] = answer[8].min(1),
+        |answer, _| answer[8] += (answer[0] == 22) as u64,
+        |answer, _| answer[9] = 1,
         |answer, _| answer[15] = 1,
     ];
     for spoil in decode {
         expect(stock, Wrong { decode: Some(spoil), ..Wrong::default() }, "decode", "slots");
     }
-    let judge: [SpoilJudge; 8] = [
+    let judge: [SpoilJudge; 14] = [
         |answer, _| answer[0] += (answer[0] == 8) as u64,
         |answer, _| answer[2] += (answer[0] == 20) as u64,
         |answer, _| answer[2] += (answer[0] == 40) as u64,
@@ -156,34 +173,55 @@ fn slots() {
         |answer, _| answer[4] += (answer[0] == 9) as u64,
         |answer, _| answer[5] += accepted(answer) as u64,
         |answer, _| answer[6] -= (answer[6] == 31) as u64,
+        |answer, _| answer[8] = 0,
         |answer, _| answer[8] = 1,
+        |answer, _| answer[8] = answer[8].min(1),
+        |answer, _| answer[8] += (answer[0] == 17) as u64,
+        // A first record of 30 entries counts too.
+        |answer, input| {
+            let first = accepted(answer) && answer[4] > 0;
+            answer[8] += (first && first_count(input) == 30) as u64
+        },
+        // A first record of 31 entries does not count where one of its letters is an N.
+        |answer, input| {
+            let with_n = accepted(answer) && answer[4] > 0 && second::section(input, 5)[0] >= 0x80;
+            answer[8] -= (with_n && first_count(input) == 31) as u64
+        },
+        |answer, _| answer[9] = 1,
     ];
     for spoil in judge {
         let wrong = Wrong { validate_block: Some(spoil), ..Wrong::default() };
         expect(stock, wrong, "validate_block", "slots");
     }
-    let judge_file: [SpoilJudge; 3] = [
+    let judge_file: [SpoilJudge; 7] = [
         |answer, file| answer[3] += file.is_empty() as u64,
         |answer, _| answer[1] -= (answer[1] > 0) as u64,
         |answer, _| answer[3] += answer[1],
+        |answer, _| answer[8] = 0,
+        |answer, _| answer[8] = answer[8].min(1),
+        // Left in a refusal after the first block.
+        |answer, _| answer[8] += (answer[1] > 0) as u64,
+        |answer, _| answer[9] = 1,
     ];
     for spoil in judge_file {
         let wrong = Wrong { validate: Some(spoil), ..Wrong::default() };
         expect(stock, wrong, "validate", "slots");
     }
-    let write: [SpoilEncode; 4] = [
+    let write: [SpoilEncode; 5] = [
         |answer, _| answer[0] += (answer[0] == 32) as u64,
         |answer, _| answer[0] -= (answer[0] == 41) as u64,
         |answer, _| answer[3] -= accepted(answer) as u64,
         |answer, _| answer[4] += accepted(answer) as u64,
+        |answer, _| answer[8] += accepted(answer) as u64,
     ];
     for spoil in write {
         expect(stock, Wrong { encode: Some(spoil), ..Wrong::default() }, "encode", "slots");
     }
-    let tell: [SpoilSection; 3] = [
+    let tell: [SpoilSection; 4] = [
         |answer, number| answer[3] += (number == 5 && answer[4] != 0) as u64,
         |answer, _| answer[4] += (answer[4] != 0) as u64,
         |answer, number| answer[3] += (number > 8) as u64,
+        |answer, _| answer[8] = 1,
     ];
     for spoil in tell {
         expect(stock, Wrong { section: Some(spoil), ..Wrong::default() }, "section", "slots");

@@ -67,6 +67,6 @@ fn the_listings_end_as_they_should() {
     let refused = text("refused.txt");
     assert!(refused.lines().last().unwrap().starts_with("refused 17 2 "));
     assert_eq!(refused.matches("block ").count(), 2);
-    let paper = "block 7 reads 1 letters 4 entries 1 differences 1\nACTT\nend blocks 1\n";
+    let paper = "block 7 reads 1 letters 4 entries 1 differences 1 top 0\nACTT\nend blocks 1\n";
     assert_eq!(text("one_read.txt"), paper);
 }

@@ -18,12 +18,45 @@ pub struct Counts {
     pub entries: u64,
     /// Entries that are no fillers and do not stand under an N.
     pub differences: u64,
+    /// Reads whose record has exactly 31 entries, the most that a record can have: the end of the
+    /// scale. Fillers and entries under an N are entries too. A read that would take more at its
+    /// place is stored without one, has no entries and is not counted.
+    pub top: u64,
 }
 
 impl Counts {
     fn of(answer: &Answer) -> Counts {
-        let [_, _, _, _, reads, letters, entries, differences, ..] = *answer;
-        Counts { reads, letters, entries, differences }
+        let [_, _, _, _, reads, letters, entries, differences, top, ..] = *answer;
+        Counts { reads, letters, entries, differences, top }
+    }
+
+    /// Each count of the one and of the other together, modulo 2^64: over the blocks of a file these
+    /// are the counts of the file.
+    ///
+    /// ```
+    /// use ora::{blocks, encode, validate, Candidate, Counts, Reads, Reference};
+    ///
+    /// let reference = Reference::new(12, &[0x1B, 0x1B, 0xE4])?;
+    /// let mut reads = Reads::new();
+    /// reads.push(b"7", b"ACTT", Candidate::forward(0));
+    /// let file = encode(&reference, &reads, 7, 0)?.repeat(3);
+    ///
+    /// let mut sum = Counts::default();
+    /// for block in blocks(&file) {
+    ///     sum = sum.wrapping_add(block?.validate(&reference)?.counts);
+    /// }
+    /// assert_eq!(sum, validate(&reference, &file)?.counts);
+    /// # Ok::<(), ora::Refusal>(())
+    /// ```
+    #[must_use]
+    pub fn wrapping_add(self, other: Counts) -> Counts {
+        Counts {
+            reads: self.reads.wrapping_add(other.reads),
+            letters: self.letters.wrapping_add(other.letters),
+            entries: self.entries.wrapping_add(other.entries),
+            differences: self.differences.wrapping_add(other.differences),
+            top: self.top.wrapping_add(other.top),
+        }
     }
 }
 

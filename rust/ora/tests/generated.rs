@@ -3,7 +3,9 @@
 //! a grown buffer that is too short.
 
 use ora::*;
-use second::generator::{generate, generate_reference, generate_under, Shape};
+use second::generator::{
+    generate_reference, generate_saturated, generate_under, Plan, ReferencePlan, Shape,
+};
 use second::header::Header;
 use second::mutators::{damage, spoil};
 use second::prng::Prng;
@@ -12,16 +14,24 @@ use second::proposals::{random_call, spoil_call, stepping_call, EncodeCall};
 const SHAPE: Shape =
     Shape { bases: 150, max_reads: 20, max_length: 60, max_carried: 5, max_name: 60 };
 
+/// A block under a reference; in some most records have 30 or 31 entries.
+fn generate(rng: &mut Prng, reference: &ReferencePlan) -> Plan {
+    match rng.below(4) {
+        0 => generate_saturated(rng, SHAPE, reference),
+        _ => generate_under(rng, SHAPE, reference),
+    }
+}
+
 fn refusal_of(outcome: second::Outcome) -> Refusal {
     Refusal { number: outcome.number as u64, block: outcome.block, read: outcome.read }
 }
 
-fn counts_of(counts: Counts) -> [u64; 4] {
-    [counts.reads, counts.letters, counts.entries, counts.differences]
+fn counts_of(counts: Counts) -> [u64; 5] {
+    [counts.reads, counts.letters, counts.entries, counts.differences, counts.top]
 }
 
-fn counts_in(outcome: second::Outcome) -> [u64; 4] {
-    [outcome.reads, outcome.letters, outcome.entries, outcome.differences]
+fn counts_in(outcome: second::Outcome) -> [u64; 5] {
+    [outcome.reads, outcome.letters, outcome.entries, outcome.differences, outcome.top]
 }
 
 /// Sound, spoiled or damaged blocks with bytes after them, and what each is.
@@ -103,9 +113,10 @@ fn check_boundary(input: &[u8]) {
 #[test]
 fn blocks_one_by_one() {
     let mut rng = Prng::new(1);
-    let mut decoded = Decoded::new();
+    let (mut decoded, mut with_top) = (Decoded::new(), 0);
     for _ in 0..20_000 {
-        let mut plan = generate(&mut rng, SHAPE);
+        let packed = generate_reference(&mut rng, SHAPE.bases);
+        let mut plan = generate(&mut rng, &packed);
         let number = rng.range(2, 40) as u32;
         spoil(&mut plan, number, &mut rng);
         let mut input = plan.block();
@@ -118,12 +129,15 @@ fn blocks_one_by_one() {
         let reference = Reference::new(plan.reference.bases, &plan.reference.bytes).unwrap();
         check_block(&mut decoded, &reference, &input);
         check_boundary(&input);
+        let judged = validate_block(&reference, &input);
+        with_top += judged.is_ok_and(|summary| summary.counts.top > 0) as u32;
     }
+    assert!(with_top > 1_000);
 }
 
 #[test]
 fn files() {
-    let mut rng = Prng::new(2);
+    let (mut rng, mut with_top) = (Prng::new(2), 0);
     for _ in 0..5_000 {
         let packed = generate_reference(&mut rng, SHAPE.bases);
         let reference = Reference::new(packed.bases, &packed.bytes).unwrap();
@@ -131,7 +145,7 @@ fn files() {
         let mut offsets = Vec::new();
         for _ in 0..rng.below(4) {
             offsets.push(file.len());
-            file.extend(generate_under(&mut rng, SHAPE, &packed).block());
+            file.extend(generate(&mut rng, &packed).block());
         }
         let found: Vec<usize> = blocks(&file).map(|block| block.unwrap().offset).collect();
         assert_eq!(found, offsets);
@@ -143,10 +157,11 @@ fn files() {
             Ok(summary) => {
                 assert_eq!(summary.blocks, outcome.blocks);
                 assert_eq!(counts_of(summary.counts), counts_in(outcome));
-                let sum: u64 = (blocks(&file))
-                    .map(|block| block.unwrap().validate(&reference).unwrap().counts.entries)
-                    .sum();
-                assert_eq!(sum, outcome.entries);
+                let sum = (blocks(&file))
+                    .map(|block| block.unwrap().validate(&reference).unwrap().counts)
+                    .fold(Counts::default(), Counts::wrapping_add);
+                assert_eq!(sum, summary.counts);
+                with_top += (sum.top > 0) as u32;
             }
             Err(refusal) => {
                 assert_eq!(refusal, refusal_of(outcome));
@@ -157,6 +172,7 @@ fn files() {
             }
         }
     }
+    assert!(with_top > 500);
 }
 
 /// Both write the same, and it reads back.

@@ -1,7 +1,8 @@
-//! Property: `include/ora.h` has the refusals, sections and functions of this crate, with the same
-//! numbers, names and sentences. Catches: a number or name added in one place alone.
+//! Property: `include/ora.h` has the refusals, sections, counts and functions of this crate, with the
+//! same numbers, names and sentences. Catches: a number or name added in one place alone.
 
-use ora::{encode, has_names, raw, Reads, Reference, RefusalKind, Section};
+use ora::{encode, has_names, raw, validate_block};
+use ora::{Candidate, Reads, Reference, RefusalKind, Section};
 
 const HEADER: &str = include_str!("../../../include/ora.h");
 
@@ -88,6 +89,33 @@ fn names_flag() {
 #[test]
 fn slots() {
     assert!(HEADER.contains(&format!("#define ORA_ANSWER_SLOTS {}\n", raw::SLOTS)));
+}
+
+/// Each count is the slot that the header names so, in a block whose counts all differ.
+#[test]
+fn counts() {
+    let bytes = [0x1B; 500];
+    let reference = Reference::new(2000, &bytes).unwrap();
+    let mut reads = Reads::new();
+    for changed in [&[1953][..], &[0, 1], &[], &[]] {
+        let mut letters = b"ACGT".repeat(500);
+        changed.iter().for_each(|&place: &usize| letters[place] = b"CGTA"[place % 4]);
+        reads.push(b"0", &letters, Candidate::forward(0));
+    }
+    let block = encode(&reference, &reads, 0, 0).unwrap();
+    let mut answer = [0; raw::SLOTS];
+    raw::validate_block(2000, &bytes, &block, &mut answer);
+    let constants = constants("ora_slot");
+    let slot = |name: &str| {
+        let (_, slot, _) = constants.iter().find(|(constant, ..)| constant == name).unwrap();
+        answer[*slot as usize]
+    };
+    let counts = validate_block(&reference, &block).unwrap().counts;
+    assert_eq!((counts.reads, slot("ORA_READS")), (4, 4));
+    assert_eq!((counts.letters, slot("ORA_LETTERS")), (8000, 8000));
+    assert_eq!((counts.entries, slot("ORA_ENTRIES")), (33, 33));
+    assert_eq!((counts.differences, slot("ORA_DIFFERENCES")), (3, 3));
+    assert_eq!((counts.top, slot("ORA_TOP")), (1, 1));
 }
 
 /// The functions, each with the names of its arguments, are those that `raw` declares.

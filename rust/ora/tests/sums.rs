@@ -15,7 +15,8 @@ fn sum(length: i32, dna: &[u8]) -> Result<(String, u64, u64), Refusal> {
     assert_eq!(decoded.summary().length, block.len());
     assert_eq!(validate_block(&reference(), &block), Ok(decoded.summary()));
     let letters = String::from_utf8(decoded.read(0).unwrap().to_vec()).unwrap();
-    let Counts { entries, differences, .. } = decoded.summary().counts;
+    let Counts { entries, differences, top, .. } = decoded.summary().counts;
+    assert_eq!(top, 0);
     Ok((letters, entries, differences))
 }
 
@@ -69,12 +70,13 @@ fn the_listed_block() {
     assert_eq!(block_length(&block), Ok(132));
 
     let decoded = decode(&reference(), &block).unwrap();
-    let Counts { reads, letters, entries, differences, .. } = decoded.summary().counts;
-    assert_eq!((reads, letters, entries, differences), (1, 4, 1, 1));
+    let Counts { reads, letters, entries, differences, top, .. } = decoded.summary().counts;
+    assert_eq!((reads, letters, entries, differences, top), (1, 4, 1, 1, 0));
     assert_eq!((decoded.letters(), decoded.ends()), (&b"ACTT"[..], &[4][..]));
 
     let file = validate(&reference(), &block.repeat(3)).unwrap();
-    assert_eq!((file.blocks, file.counts.letters, file.counts.differences), (3, 12, 3));
+    let Counts { reads, letters, entries, differences, top, .. } = file.counts;
+    assert_eq!((file.blocks, reads, letters, entries, differences, top), (3, 3, 12, 3, 3, 0));
 }
 
 /// Lengths 5, 5, 300 in a size section, both ways.
@@ -100,7 +102,7 @@ fn lengths() {
 }
 
 /// A lone difference at 64 takes 2 entries, at 127 three, at 1953 thirty-one; at 1954 the read goes
-/// raw.
+/// raw. Of these the one at 1953 alone is at the top.
 #[test]
 fn entries_of_a_lone_difference() {
     let bytes = [0x1B; 500];
@@ -113,8 +115,9 @@ fn entries_of_a_lone_difference() {
         let block = encode(&reference, &reads, 0, 0).unwrap();
         let decoded = decode(&reference, &block).unwrap();
         assert_eq!(decoded.letters(), letters);
-        let counts = decoded.summary().counts;
-        assert_eq!((counts.entries, counts.differences), (entries, entries.min(1)), "{place}");
+        let Counts { differences, top, .. } = decoded.summary().counts;
+        assert_eq!(decoded.summary().counts.entries, entries, "{place}");
+        assert_eq!((differences, top), (entries.min(1), (place == 1953) as u64), "{place}");
     }
 }
 

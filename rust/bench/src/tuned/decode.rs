@@ -1,6 +1,6 @@
 //! The decoder that trusts its block: one pass and no check. It counts differences by looking at a
 //! letter before it is replaced. Names are not read.
-use super::{take_word, Counts, Group, Tables, WORD_ESCAPE};
+use super::{take_word, Counts, Group, Tables, MAX_ENTRIES, WORD_ESCAPE};
 use second::header::{Header, DNA, SIZE};
 
 /// A, C, G, T as the bytes of one number.
@@ -159,7 +159,7 @@ pub unsafe fn decode(
     let mut to = letters;
     let mut group = Group::NONE;
     let mut position = 0;
-    let (mut entry_sum, mut differences) = (0, 0);
+    let (mut entry_sum, mut differences, mut top) = (0, 0, 0);
     for read in 0..header.reads as usize {
         if read % 8 == 0 {
             group = Group::read(at);
@@ -212,11 +212,12 @@ pub unsafe fn decode(
         }
         if count > 0 {
             entry_sum += count as u64;
+            top += (count == MAX_ENTRIES) as u64;
             differences += put_entries(entries, count, to.add(left));
         }
         to = to.add(length);
         *ends.add(read) = to.offset_from(letters) as u32;
         group.shift();
     }
-    [header.reads, to.offset_from(letters) as u64, entry_sum, differences]
+    [header.reads, to.offset_from(letters) as u64, entry_sum, differences, top]
 }

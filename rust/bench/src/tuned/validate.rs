@@ -1,7 +1,7 @@
 //! The validator: one pass with pointers and every check of a block whose header is sound. It says
 //! only whether a block is accepted, not with which number it is refused. Names are judged by the
 //! plain code.
-use super::{take_word, Counts, Group, MAX_READ_LENGTH, WORD_ESCAPE};
+use super::{take_word, Counts, Group, MAX_ENTRIES, MAX_READ_LENGTH, WORD_ESCAPE};
 use crate::names::plain;
 use second::header::{Header, DNA, N, NAMES, SIZE};
 
@@ -189,7 +189,7 @@ unsafe fn run<const DIFFERENCES: bool>(
     }
     let mut group = Group::NONE;
     let mut position = 0;
-    let (mut letters, mut entry_sum, mut difference_sum) = (0, 0, 0);
+    let (mut letters, mut entry_sum, mut difference_sum, mut top) = (0, 0, 0, 0);
     for read in 0..reads {
         if read % 8 == 0 {
             group = Group::read(dna.take(4)?);
@@ -245,6 +245,7 @@ unsafe fn run<const DIFFERENCES: bool>(
                 return None;
             }
             entry_sum += count as u64;
+            top += (count == MAX_ENTRIES) as u64;
         } else {
             if count != 0 || kind > 2 || (group.forward | group.step) >= 128 {
                 return None;
@@ -288,7 +289,7 @@ unsafe fn run<const DIFFERENCES: bool>(
         && lengths.all_taken()
         && letters == header.dna_raw_size
         && (!header.names_stored() || names());
-    all.then_some([header.reads, letters, entry_sum, difference_sum])
+    all.then_some([header.reads, letters, entry_sum, difference_sum, top])
 }
 
 /// The counts of a block; None where it is refused.

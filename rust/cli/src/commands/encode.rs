@@ -257,11 +257,12 @@ impl Summary {
         line(*named, "with a name");
         line(reads - named, "without a name");
         line(*name_bytes, "bytes of names");
-        if let Some(Kinds { perfect, global, local, raw }) = kinds {
+        if let Some(Kinds { perfect, global, local, raw, too_many_entries }) = kinds {
             line(*perfect, "stored perfect");
             line(*global, "stored global");
             line(*local, "stored local");
             line(*raw, "stored raw");
+            line(*too_many_entries, "stored raw with a place: more than 31 entries");
         }
         text
     }

@@ -30,10 +30,11 @@ pub fn run(arguments: &ListArguments) -> Result<Status, Failure> {
 }
 
 fn print_block(block: &FileBlock, decoded: &Decoded, text: &mut Vec<u8>) {
-    let Counts { reads, letters, entries, differences, .. } = decoded.summary().counts;
+    let Counts { reads, letters, entries, differences, top, .. } = decoded.summary().counts;
     let b_id = block_id(block.bytes());
     let line = format!(
-        "block {b_id} reads {reads} letters {letters} entries {entries} differences {differences}\n"
+        "block {b_id} reads {reads} letters {letters} entries {entries} \
+         differences {differences} top {top}\n"
     );
     text.extend_from_slice(line.as_bytes());
     print_reads(decoded, text);

@@ -64,12 +64,7 @@ fn judge(file: &InputFile, reference: &Reference, workers: &Workers) -> Result<A
     };
     let take = |block: ora::BlockSummary| {
         accepted.blocks += 1;
-        // The sums of a file are taken modulo 2^64.
-        let (sums, counts) = (&mut accepted.counts, block.counts);
-        sums.reads = sums.reads.wrapping_add(counts.reads);
-        sums.letters = sums.letters.wrapping_add(counts.letters);
-        sums.entries = sums.entries.wrapping_add(counts.entries);
-        sums.differences = sums.differences.wrapping_add(counts.differences);
+        accepted.counts = accepted.counts.wrapping_add(block.counts);
         progress.advance(block.length as u64);
         Ok(())
     };
@@ -106,11 +101,11 @@ impl Verdict {
 
     fn in_words(&self) -> String {
         let Verdict { file, accepted: Accepted { blocks, counts }, refused } = self;
-        let Counts { reads, letters, entries, differences, .. } = counts;
+        let Counts { reads, letters, entries, differences, top, .. } = counts;
         match refused {
             None => format!(
                 "{file}: accepted, blocks {blocks}, reads {reads}, letters {letters}, \
-                 entries {entries}, differences {differences}\n"
+                 entries {entries}, differences {differences}, top {top}\n"
             ),
             Some(refused) => {
                 let ora::Refusal { number, block, read } = refused.refusal;
@@ -125,7 +120,7 @@ impl Verdict {
 
     fn in_json(&self) -> String {
         let Verdict { file, accepted: Accepted { blocks, counts }, refused } = self;
-        let Counts { reads, letters, entries, differences, .. } = counts;
+        let Counts { reads, letters, entries, differences, top, .. } = counts;
         let refusal = refused.as_ref().map_or("null".to_string(), |refused| {
             let ora::Refusal { number, block, read } = refused.refusal;
             let (name, reason) = (refused.refusal.name(), json_string(refused.sentence()));
@@ -139,7 +134,7 @@ impl Verdict {
         format!(
             "{{\"file\":{file},\"accepted\":{accepted},\"blocks\":{blocks},\"reads\":{reads},\
              \"letters\":{letters},\"entries\":{entries},\"differences\":{differences},\
-             \"refusal\":{refusal}}}\n"
+             \"top\":{top},\"refusal\":{refusal}}}\n"
         )
     }
 }

@@ -1,7 +1,9 @@
 //! What the tests share: running the binary, files, and small samples.
 #![allow(dead_code)]
 
-use second::generator::{generate_reference, generate_under, Plan, ReferencePlan, Shape};
+use second::generator::{
+    generate_reference, generate_saturated, generate_under, Plan, ReferencePlan, Shape,
+};
 use second::prng::Prng;
 use std::fs;
 use std::io::Write;
@@ -139,9 +141,10 @@ pub fn sample_block() -> Vec<u8> {
     block
 }
 
-pub const SAMPLE_LINES: &str = "block 7 reads 1 letters 4 entries 1 differences 1\nACTT\n";
+pub const SAMPLE_LINES: &str = "block 7 reads 1 letters 4 entries 1 differences 1 top 0\nACTT\n";
 
-/// A reference, and blocks under it that the second implementation has made.
+/// A reference, and blocks under it that the second implementation has made; in every third most
+/// records have 30 or 31 entries.
 pub struct Generated {
     pub reference: ReferencePlan,
     pub plans: Vec<Plan>,
@@ -153,7 +156,11 @@ impl Generated {
         let shape =
             Shape { bases: 300, max_reads: 40, max_length: 90, max_carried: 20, max_name: 255 };
         let reference = generate_reference(&mut rng, shape.bases);
-        let plans = (0..blocks).map(|_| generate_under(&mut rng, shape, &reference)).collect();
+        let plan = |block: usize| match block % 3 {
+            2 => generate_saturated(&mut rng, shape, &reference),
+            _ => generate_under(&mut rng, shape, &reference),
+        };
+        let plans = (0..blocks).map(plan).collect();
         Generated { reference, plans }
     }
 

@@ -1,12 +1,12 @@
 //! Sees what is met in reverse local records, whose stretch ends at the stored position and runs
 //! down: where it lies, which steps lead from it and to it, and how it leaves the reference.
 
+use super::walk::Walk;
 use crate::case::Reading;
 use crate::paths::Path;
 use crate::tally::Tally;
-use second::header::{section, DNA};
-use second::lengths::{bit, lengths};
-use second::records::{read_record, Bits, Cursor, Kind, Record};
+use second::lengths::lengths;
+use second::records::{Kind, Record};
 use second::reference::{Reference, Strand};
 
 /// Whether a record is local and on the reverse strand.
@@ -17,69 +17,6 @@ fn is_reverse_local(record: &Record) -> bool {
 /// Whether it is so, and its position not the lowest index: it has two aligned letters or more.
 fn runs_down(record: &Record) -> bool {
     is_reverse_local(record) && record.stretch().is_some_and(|(_, span)| span > 1)
-}
-
-/// The records of a DNA section, one after the other.
-struct Walk<'a> {
-    reference: &'a Reference<'a>,
-    dna: Cursor<'a>,
-    /// The bytes of the group: Perfect, Forward, with-N, pos_t.
-    group: [u8; 4],
-    index: usize,
-    /// The position of the aligned read before.
-    previous: u64,
-}
-
-impl<'a> Walk<'a> {
-    fn new(reference: &'a Reference, input: &'a [u8]) -> Walk<'a> {
-        let dna = Cursor::new(section(input, DNA));
-        Walk { reference, dna, group: [0; 4], index: 0, previous: 0 }
-    }
-
-    fn bits(&mut self) -> Option<Bits> {
-        let index = self.index % 8;
-        if index == 0 {
-            self.group = self.dna.take(4).ok()?.try_into().ok()?;
-        }
-        self.index += 1;
-        let [perfect, forward, with_n, pos_t] = self.group.map(|byte| bit(byte, index));
-        Some(Bits { perfect, forward, with_n, pos_t })
-    }
-
-    /// The next record with its bits; None where it is refused.
-    fn record(&mut self, length: u64) -> Option<(Bits, Record)> {
-        let bits = self.bits()?;
-        let record =
-            read_record(&mut self.dna, bits, length, self.previous, self.reference).ok()?;
-        self.previous = record.placement().map_or(self.previous, |place| place.position);
-        Some((bits, record))
-    }
-
-    /// The position of the next record, which is refused with 15, and how many aligned letters it
-    /// has; None where it is not reverse local.
-    fn refused(&mut self, length: u64) -> Option<(u64, u64)> {
-        let bits = self.bits()?;
-        if bits.perfect || bits.forward {
-            return None;
-        }
-        let flag = self.dna.take(1).ok()?[0];
-        if flag & 0b111 != 0 {
-            return None;
-        }
-        let position = if bits.pos_t {
-            self.previous + number(self.dna.take(2).ok()?)
-        } else {
-            number(self.dna.take(4).ok()?)
-        };
-        self.dna.take(flag as u64 >> 3).ok()?;
-        let clips = self.dna.take(2).ok()?;
-        Some((position, length - clips[0] as u64 - clips[1] as u64))
-    }
-}
-
-/// Little-endian.
-fn number(bytes: &[u8]) -> u64 {
-    bytes.iter().rev().fold(0, |number, &byte| number << 8 | byte as u64)
 }
 
 /// What is met in an accepted block of these records.
@@ -114,7 +51,9 @@ pub fn of_refused(reading: &Reading, read: u64, tally: &mut Tally) {
     for &length in &lengths[..read as usize] {
         walk.record(length as u64);
     }
-    let Some((position, span)) = walk.refused(lengths[read as usize] as u64) else { return };
+    let Some((position, span)) = walk.refused_reverse_local(lengths[read as usize] as u64) else {
+        return;
+    };
     let below = position < reading.bases && position + 1 < span;
     tally.path_if(Path::ReverseLocalBelow0, below);
     tally.path_if(Path::ReverseLocalMinus1, below && position + 2 == span);

@@ -3,7 +3,9 @@
 use super::{reading, small_shape};
 use crate::case::{bytes, Work};
 use crate::stock::Stock;
-use second::generator::{generate_reference, generate_under, Plan, ReferencePlan, Shape};
+use second::generator::{
+    generate_reference, generate_saturated, generate_under, Plan, ReferencePlan, Shape,
+};
 use second::mutators::{damage, spoil, BLOCK_NUMBERS};
 use second::prng::Prng;
 
@@ -22,6 +24,22 @@ fn joined(plans: &[Plan]) -> Vec<u8> {
 
 pub fn sound_file(rng: &mut Prng, _: &Stock) -> Work {
     let (reference, plans) = drawn_file(rng);
+    reading(rng, reference.bases, bytes(reference.bytes), joined(&plans))
+}
+
+/// Blocks in which most global and local records have 30 or 31 entries; now and then the last has a
+/// fault.
+pub fn saturated_file(rng: &mut Prng, _: &Stock) -> Work {
+    let max_length = rng.pick(&[31, 40, 70]);
+    let shape = Shape { bases: 130, max_reads: 4, max_length, max_carried: 2, max_name: 12 };
+    let reference = generate_reference(rng, shape.bases);
+    let mut plans: Vec<Plan> = (0..rng.pick(&[1, 2, 2, 3, 4]))
+        .map(|_| generate_saturated(rng, shape, &reference))
+        .collect();
+    if let (Some(last), true) = (plans.last_mut(), rng.once_in(3)) {
+        let number = rng.pick(&BLOCK_NUMBERS[1..]);
+        spoil(last, number, rng);
+    }
     reading(rng, reference.bases, bytes(reference.bytes), joined(&plans))
 }
 
