@@ -31,22 +31,22 @@ unfoldable pub fifthRow : List ℕ
 fifthRow =
     0x00 ∷ 0x80 ∷ 0x00 ∷ 0x00 ∷ 0x0c ∷ 0x00 ∷ 0x00 ∷ 0x00 ∷ 0x00 ∷ 0x0b ∷ []
 
--- One block, version 20505, b_id 7, flags 1, l_read 4, raw DNA size 4, a DNA section of so many
--- bytes that begins with the fifth starred row, and what follows it.
-unfoldable pub blockWith : (dnaSize : ℕ) (rest : List ℕ) → List ℕ
-blockWith dnaSize rest =
+-- One block, version 20505, flags 1 and an N section of one byte, with these numbers, each below
+-- 256: the bytes of its DNA section, l_read, n_reads, b_id and raw DNA size; and its sections.
+unfoldable pub blockWith : (dnaSize readLength reads id rawSize : ℕ) (sections : List ℕ) → List ℕ
+blockWith dnaSize readLength reads id rawSize sections =
     0x49 ∷ 0x7c ∷ 121 ∷ 0 ∷ 0 ∷ 0 ∷ dnaSize ∷ 0 ∷ 0 ∷ 0 ∷ (replicate 16 0
     ++ (1 ∷ 0 ∷ 0 ∷ 0 ∷ (replicate 12 0
-    ++ (1 ∷ 0 ∷ 0 ∷ 0 ∷ 4 ∷ 0 ∷ 0 ∷ 0 ∷ 1 ∷ 0 ∷ 0 ∷ 0 ∷ 0x19 ∷ 0x50 ∷ 7 ∷ (replicate 16 0
-    ++ (4 ∷ (replicate 47 0 ++ (fifthRow ++ rest))))))))
+    ++ (1 ∷ 0 ∷ 0 ∷ 0 ∷ readLength ∷ 0 ∷ 0 ∷ 0 ∷ reads ∷ 0 ∷ 0 ∷ 0 ∷ 0x19 ∷ 0x50
+    ∷ id ∷ (replicate 16 0 ++ (rawSize ∷ (replicate 47 0 ++ sections)))))))
 
--- 01's listing block (Sums done by hand): the N section 00 follows; and the same with a byte too
--- many in its DNA section.
+-- 01's listing block (Sums done by hand): b_id 7, l_read 4, raw DNA size 4, the fifth starred row,
+-- the N section 00; and the same with a byte too many in its DNA section.
 unfoldable pub listingBlock : List ℕ
-listingBlock = blockWith 10 (0 ∷ [])
+listingBlock = blockWith 10 4 1 7 4 (fifthRow ++ (0 ∷ []))
 
 unfoldable pub leftOverBlock : List ℕ
-leftOverBlock = blockWith 11 (0 ∷ 0 ∷ [])
+leftOverBlock = blockWith 11 4 1 7 4 (fifthRow ++ (0 ∷ 0 ∷ []))
 
 -- The division of the listing block.
 unfoldable pub listingDivided : BlockDivision
@@ -103,16 +103,12 @@ pub record ListingRight : Type 0 where
         counts = record { reads = 0; letters = 0; entries = 0; differences = 0; top = 0 };
       }
 
--- 02, Ticket 4: the section of TopExample in a block with flag 0x1 and b_id 5.
+-- 02, Ticket 4: the three reads of TopExample in a block with b_id 5.
 unfoldable pub topBlock : List ℕ
-topBlock =
-    0x49 ∷ 0x7c ∷ 121 ∷ 0 ∷ 0 ∷ 0 ∷ 89 ∷ 0 ∷ 0 ∷ 0 ∷ (replicate 16 0
-    ++ (1 ∷ 0 ∷ 0 ∷ 0 ∷ (replicate 12 0
-    ++ (1 ∷ 0 ∷ 0 ∷ 0 ∷ 40 ∷ 0 ∷ 0 ∷ 0 ∷ 3 ∷ 0 ∷ 0 ∷ 0 ∷ 0x19 ∷ 0x50 ∷ 5 ∷ (replicate 16 0
-    ++ (120 ∷ (replicate 47 0 ++ (topSection ++ topNSection))))))))
+topBlock = blockWith 89 40 3 5 120 (topSection ++ topNSection)
 
--- Judged alone it has one read at the top, and twice in a file two. Refused, with a byte of it
--- missing, its counts are 0.
+-- Alone it has one read at the top, twice in a file two. Where its last byte is missing the second
+-- time the file is refused, and every count is 0.
 pub record TopBlockRight : Type 0 where
   pub alone : validatedBlock 40 fortyBases topBlock
       ≡ record {
