@@ -1,5 +1,5 @@
--- A worked example of the fifth count (02, Ticket 4): a record of exactly 31 entries, of which three
--- are fillers and one stands under an N; one of 30; and a raw read that differs in all its 40
+-- A worked example of the fifth count (02, Ticket 4): a record of exactly 31 entries, of which
+-- three are fillers and one stands under an N; one of 30; and a raw read that differs in all its 40
 -- letters from the reference. One of them is counted. The proof, by computation, is
 -- proofs/TopExampleHolds.antt.
 use Prim.Native.Nat.{ℕ, suc, _%_}

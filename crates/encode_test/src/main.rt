@@ -2,9 +2,9 @@
 // of 1 and 30 to 34. The file stdout holds what the specification gives.
 //
 // A line: a name, and `written` with the block's length, up to 16 bytes of its DNA section in
-// hexadecimal digits, and what validate_block then answers: the length, and reads, letters, entries,
-// differences and top; or `refused` with the number, and whether the buffer holds what it held
-// before.
+// hexadecimal digits, and what validate_block then answers: the length, and reads, letters,
+// entries, differences and top; or `refused` with the number, and whether the buffer holds what it
+// held before.
 mod differences;
 mod lines;
 mod refusals;

@@ -242,8 +242,8 @@ pub record Readable (bases : ℕ) (reference input : List ℕ) (buffers : Buffer
   pub room : Room reference bases buffers (wellFormed .divided)
 
 -- What decoding gives by a division: its counts, of which the last, top, is how many of its reads
--- have a record with exactly 31 entries (02, Ticket 4); its letters, its names and the ends of both,
--- and the buffers past them as before.
+-- have a record with exactly 31 entries (02, Ticket 4); its letters, its names and the ends of
+-- both, and the buffers past them as before.
 pub record Decodes (bases : ℕ) (reference block input : List ℕ) (buffers : Buffers)
     (divided : BlockDivision) : Type 0 where
   pub outcome : decoded bases reference input buffers
