@@ -21,6 +21,7 @@ DECLARED = re.compile(
 )
 CAMEL = re.compile(r"[a-z0-9][A-Z]")
 KIT = "/opt/rattle/rattle"
+KITS = ("mathlib", "native", "lib", "Prim", "borrow")
 # Looked at by hand: two names that fall together here stand in different records or crates, or one is a local's.
 TOGETHER = set(
     "endBefore endsLent entriesFit entry-count firstRead isRight l_DNA l_DNA_raw l-header l_N l-read lastDigits leftIn "
@@ -59,12 +60,17 @@ def snake(word):
 
 
 def main():
+    own = set(os.listdir("crates"))
     seen, declared, in_specs, made = collections.Counter(), set(), set(), set()
-    in_antt = set()
+    in_antt, of_kit = set(), set()
     known = set()
     for path in files(".antt"):
         text = read(path)
         seen.update(TOKEN.findall(text))
+        for module, names in re.findall(r"(?m)^use ([\w.'+]+)\.\{([^}]*)\}", text):
+            words = module.split(".")
+            if words[0] in KITS or words[0] == "Rattle" and words[1] not in own:
+                of_kit.update(n.strip() for n in names.split(",") if "-" in n)
         if not is_function_proof(path):
             in_antt.update(TOKEN.findall(re.sub(r"--.*", "", re.sub(r"(?m)^use .*", "", text))))
         for line in text.splitlines():
@@ -99,6 +105,8 @@ def main():
         turned = [snake(p) for p in parts]
         if len(turned) == 1:
             return turned[0]
+        if name in of_kit:
+            return name
         if name in made or name not in declared:
             return "-".join(turned) if any(CAMEL.search(p) for p in parts) else name
         if name in in_specs:

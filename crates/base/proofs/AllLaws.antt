@@ -9,7 +9,7 @@ use lib.ListN
 use lib.ListN.{length, get_or, length-append, length-map}
 use Rattle.base.specs.Lists.{any, All, Below}
 use Rattle.base.proofs.ListLaws.{get_or-inside, all_append, all_left, all_right, below-nil, below-cons, below-append}
-use Rattle.base.proofs.Tests.{or-neither, neither_or, not_false, true_not}
+use Rattle.base.proofs.Tests.{or-neither, neither_or, not-false, true_not}
 
 -- ---- Claims
 
@@ -47,7 +47,7 @@ unfolding any
 none-all test [] e = tt
 none-all test (x ∷ xs) e =
     let parts = or-neither (not (test x)) _ e in
-    (not_false _ parts.0, none-all test xs parts.1)
+    (not-false _ parts.0, none-all test xs parts.1)
 
 -- A test that holds of all fails of none.
 pub all_none {ℓ} : {A : Type ℓ} (test : A → Bool) (list : List A) → All (λ x. test x ≡ true) list → any (λ x. not (test x)) list ≡ false
@@ -78,10 +78,10 @@ length_flatten-some (list ∷ lists) h =
     omega (arith, h.0, length-append list (flatten lists), length_flatten-some lists h.1)
 
 -- Inside a mapped list.
-pub get_d_map {ℓ κ} : {A : Type ℓ} {B : Type κ} (f : A → B) (list : List A) (k : ℕ) (d : A) (e : B) → k < length list
+pub get_or-map_any {ℓ κ} : {A : Type ℓ} {B : Type κ} (f : A → B) (list : List A) (k : ℕ) (d : A) (e : B) → k < length list
     → get_or (map f list) k e ≡ f (get_or list k d)
-get_d_map f list k d e h =
-    get_or-inside (map f list) k e (f d) (subst (λ (n : ℕ). k < n) (sym (length-map list f)) h) ∙ ListN.get_d_map f list k d
+get_or-map_any f list k d e h =
+    get_or-inside (map f list) k e (f d) (subst (λ (n : ℕ). k < n) (sym (length-map list f)) h) ∙ ListN.get_or-map f list k d
 
 -- A bound on the elements of each part.
 pub below-flat_map {ℓ} : {A : Type ℓ} (bound : ℕ) (f : A → List ℕ) (list : List A) → All (λ x. Below bound (f x)) list

@@ -43,7 +43,7 @@ checked-found terms [] rest e = (refl, e)
 checked-found {R} {A} terms (f ∷ fs) rest {a} {i} e =
     let go : (t : Bool) → cond {A = Answer R A} t (refused (terms f.number)) (checked (λ number. refused (terms number)) fs rest) ≡ found a i
     → (t || any (λ g. g.fits) fs ≡ false) × (rest ≡ found a i)
-    = λ t. elim t [ true ↦ λ h. absurd-found h | false ↦ λ h. checked-found terms fs rest h ] in
+    = elim [ true ↦ λ h. absurd-found h | false ↦ λ h. checked-found terms fs rest h ] in
     go f.fits e
 
 -- What a function that takes every refusal alike makes of the first fault that fits.
@@ -55,7 +55,7 @@ checked_into f terms x alike [] rest = refl
 checked_into {R} {A} {B} f terms x alike (g ∷ faults) rest =
     let more : Answer R A = checked (λ number. refused (terms number)) faults rest in
     let go : (t : Bool) → f (cond {A = Answer R A} t (refused (terms g.number)) more) ≡ cond (t || any (λ h. h.fits) faults) x (f rest)
-    = λ t. elim t [ true ↦ alike g.number | false ↦ checked_into f terms x alike faults rest ] in
+    = elim [ true ↦ alike g.number | false ↦ checked_into f terms x alike faults rest ] in
     go g.fits
 
 -- Some fault fits exactly where the first number is above 0.
@@ -65,7 +65,7 @@ unfolding any checked
 any-first_number [] numbered = refl
 any-first_number (f ∷ fs) numbered =
     let go : (t : Bool) → t || any (λ g. g.fits) fs ≡ ltb 0 (cond t f.number (first_number fs))
-    = λ t. elim t [
+    = elim [
       | true ↦ sym (lt-ltb 0 f.number numbered.0)
       | false ↦ any-first_number fs numbered.1
     ] in
@@ -79,7 +79,7 @@ checked-first refuse [] rest some = absurd (omega arith)
 checked-first {A} refuse (f ∷ fs) rest some =
     let go : (t : Bool) → 0 < cond t f.number (first_number fs)
     → cond {A = A} t (refuse f.number) (checked refuse fs rest) ≡ refuse (cond t f.number (first_number fs))
-    = λ t. elim t [ true ↦ λ s. refl | false ↦ λ s. checked-first refuse fs rest s ] in
+    = elim [ true ↦ λ s. refl | false ↦ λ s. checked-first refuse fs rest s ] in
     go f.fits some
 
 -- No number of a list of faults is 0, as a test.
@@ -107,7 +107,7 @@ checked_stops {X = X} {R} {A} terms (f ∷ fs) rest {r} above e fits none =
     let go : (t : Bool) → cond {A = Answer R A} t (refused (terms f.number)) (checked (λ number. refused (terms number)) fs rest) ≡ refused r
     → (0 < cond t f.number (first_number fs) → r ≡ terms (cond t f.number (first_number fs)) → X)
     → (t || any (λ g. g.fits) fs ≡ false → rest ≡ refused r → X) → X
-    = λ t. elim t [
+    = elim [
       | true ↦ λ h yes' no'. yes' above.0 (sym (refused-same h))
       | false ↦ λ h yes' no'. checked_stops terms fs rest above.1 h yes' no'
     ] in
@@ -182,7 +182,7 @@ unfolding checked
 checked-refuses such terms [] rest h r = r
 checked-refuses {R} {A} such terms (f ∷ fs) rest h r =
     let go : (t : Bool) → Refuses such (cond {A = Answer R A} t (refused (terms f.number)) (checked (λ number. refused (terms number)) fs rest))
-    = λ t. elim t [ true ↦ h.0 | false ↦ checked-refuses such terms fs rest h.1 r ] in
+    = elim [ true ↦ h.0 | false ↦ checked-refuses such terms fs rest h.1 r ] in
     go f.fits
 
 pub and_then-refuses : {R A B : Type 0} (such : R → Type 0) (answer : Answer R A) (rest : A → ℕ → Answer R B) → Refuses such answer

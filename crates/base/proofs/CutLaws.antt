@@ -14,7 +14,7 @@ use Rattle.base.proofs.AtLaws.{at-middle, at_part}
 use Rattle.base.proofs.AllLaws.{all_too, any-all}
 use Rattle.base.proofs.GroupLaws.{length_flatten}
 use Rattle.base.proofs.StepsLaws.{length-steps_from, length-places, steps_of-places, last-place}
-use Rattle.base.proofs.Tests.{or-neither, neither_or, not_false, true_not}
+use Rattle.base.proofs.Tests.{or-neither, neither_or, not-false, true_not}
 
 -- Places that rise by their steps are where those lead.
 pub places_of-rising : (start : ℕ) (places : List ℕ) → All (λ step. 0 < step) (steps_from start places)
@@ -124,7 +124,7 @@ ends-lists step_wrong some whole ends right =
     none
     ∙ sym (last-place 0 lengths)
     ∙ ap₂ (λ (places : List ℕ) (n : ℕ). get_or (0 ∷ places) n 0) back (length-steps_from 0 ends)
-    ∙ eqb-true _ _ (not_false _ parts.1) in
+    ∙ eqb-true _ _ (not-false _ parts.1) in
     let sizes : map length (cut_by lengths whole) ≡ lengths = lengths-cut_by lengths whole last in
     record {
       counted = sym (length-map (cut_by lengths whole) length) ∙ ap length sizes ∙ length-steps_from 0 ends;

@@ -97,7 +97,7 @@ pub below-nil : (bound : ℕ) → Below bound []
 below-nil bound = record { each = λ k h. absurd (not-suc-le-zero h) }
 
 pub below-cons : {bound : ℕ} (x : ℕ) (list : List ℕ) → x < bound → Below bound list → Below bound (x ∷ list)
-below-cons x list h more = record { each = λ k. elim k [ zero ↦ λ l. h | suc j ↦ λ l. more.each j (le_of_suc-le-suc l) ] }
+below-cons x list h more = record { each = elim [ zero ↦ λ l. h | suc j ↦ λ l. more.each j (le_of_suc-le-suc l) ] }
 
 pub below-append : {bound : ℕ} (front back : List ℕ) → Below bound front → Below bound back → Below bound (front ++ back)
 below-append {bound} front back f b =
@@ -136,10 +136,10 @@ below-drop {bound} list n h =
 
 -- ---- All
 
-pub all_get_d {ℓ} : {A : Type ℓ} (P : A → Type 0) (list : List A) (d : A) → All P list → (k : ℕ) → k < length list → P (get_or list k d)
-all_get_d P [] d h k l = absurd (not-suc-le-zero l)
-all_get_d P (x ∷ xs) d h zero l = h.0
-all_get_d P (x ∷ xs) d h (suc k) l = all_get_d P xs d h.1 k (le_of_suc-le-suc l)
+pub all_get_or {ℓ} : {A : Type ℓ} (P : A → Type 0) (list : List A) (d : A) → All P list → (k : ℕ) → k < length list → P (get_or list k d)
+all_get_or P [] d h k l = absurd (not-suc-le-zero l)
+all_get_or P (x ∷ xs) d h zero l = h.0
+all_get_or P (x ∷ xs) d h (suc k) l = all_get_or P xs d h.1 k (le_of_suc-le-suc l)
 
 pub all_build {ℓ} : {A : Type ℓ} (P : A → Type 0) (n : ℕ) (f : ℕ → A) → ((k : ℕ) → k < n → P (f k)) → All P (build n f)
 unfolding build

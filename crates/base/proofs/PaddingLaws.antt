@@ -5,7 +5,7 @@ use Prim.Native.Nat.{ℕ, zero, suc, ◌+◌, ◌-◌, ◌*◌, ◌/◌, ◌%◌
 use native.Mathlib.Nat.{zero-mul, zero-add, one-mul, add-mul, suc-mul, pow-zero, pow-suc}
 use native.Mathlib.Nat.{one-le-pow, mod-one, mod-lt, div-add-mod'}
 use native.Mathlib.Omega.{arith}
-use mathlib.Core.Bool.{Bool, true, not, ◌||◌, or_false, not_not}
+use mathlib.Core.Bool.{Bool, true, not, ◌||◌, or-false, not-not}
 use mathlib.Core.List.{List, [], ◌∷◌, ◌++◌}
 use lib.ListN.{length, get_or, length-append, get_or-append, get_or-eq_default}
 use lib.Seq.{get_or-append-add}
@@ -46,7 +46,7 @@ nonzero-digits base (suc n) x some =
     ∙ ap₂ (λ (front last : Bool). front || last)
     (ap (any nonzero) (build_cong n _ _ (λ j h. digit-front base n x j h))
     ∙ nonzero-digits base n (x / base) some)
-    (or_false (nonzero (digit base (suc n) x n)) ∙ ap nonzero (digit-last base n x))
+    (or-false (nonzero (digit base (suc n) x n)) ∙ ap nonzero (digit-last base n x))
     ∙ nonzero-two base (x / base % base ^ n) (x % base) some
     ∙ ap nonzero (sym split)
 
@@ -94,7 +94,7 @@ module _ (base per : ℕ) (some_base : 0 < base) (some_per : 0 < per) (list : Li
       ap (λ (m : ℕ). not (any nonzero (symbols_at base per list at n m))) some
       ∙ ap (λ (l : List ℕ). not (any nonzero l)) (build_cong count _ _ same)
       ∙ ap not (nonzero-digits base count byte some_base)
-      ∙ not_not (eqb (byte % base ^ count) 0)
+      ∙ not-not (eqb (byte % base ^ count) 0)
       ∙ ap (λ (y : ℕ). eqb (byte % y) 0) (sym power)
 
 -- Symbols that are 0 after the last one, as many as fill its byte, change nothing.

@@ -38,13 +38,13 @@ pub or_right : (s t : Bool) → t ≡ true → s || t ≡ true
 or_right true t e = refl
 or_right false t e = e
 
-pub not_true : (t : Bool) → not t ≡ true → t ≡ false
-not_true true e = sym e
-not_true false e = refl
+pub not-true : (t : Bool) → not t ≡ true → t ≡ false
+not-true true e = sym e
+not-true false e = refl
 
-pub not_false : (t : Bool) → not t ≡ false → t ≡ true
-not_false true e = refl
-not_false false e = sym e
+pub not-false : (t : Bool) → not t ≡ false → t ≡ true
+not-false true e = refl
+not-false false e = sym e
 
 pub true_not : (t : Bool) → t ≡ true → not t ≡ false
 true_not t e = rw e

@@ -11,7 +11,7 @@ use Rattle.base.specs.Lists.{AllBytes, any, total}
 use Rattle.base.specs.Answer.{found, refused, refused_as}
 use Rattle.base.proofs.AnswerLaws.{found-same, checked-found, and_then-parts, found-refused_as}
 use Rattle.base.proofs.NumberLaws.{le_below}
-use Rattle.base.proofs.Tests.{or-neither, not_false}
+use Rattle.base.proofs.Tests.{or-neither, not-false}
 use Rattle.dna.specs.Reference.{reference_size_wrong}
 use Rattle.dna.specs.SizesAt.{lengths_given}
 use Rattle.dna.specs.Walk.{of_read, Walk, section_walk}
@@ -103,7 +103,7 @@ block-parts bases reference input divided bytes e =
     (λ division end e₃ e₄.
     let same = found-same (checked-found (of_read 0) _ _ e₄).1 in
     let right : eqb (header_of input).l_dna_raw (total lengths) ≡ true =
-    not_false (eqb (header_of input).l_dna_raw (total lengths)) size.0 in
+    not-false (eqb (header_of input).l_dna_raw (total lengths)) size.0 in
     subst (BlockParts bases reference input) same.0
     (record {
       ready = record {

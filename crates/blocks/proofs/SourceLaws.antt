@@ -8,7 +8,7 @@ use lib.ListN.{length}
 use lib.Dec.{ltb, eqb}
 use borrow.Author.Tests.{ltb-false, eqb-true}
 use Rattle.base.specs.Groups.{group_count}
-use Rattle.base.proofs.Tests.{or-neither, not_false}
+use Rattle.base.proofs.Tests.{or-neither, not-false}
 use Rattle.dna.specs.Reference.{max_reference_bases, reference_size_wrong, ReferenceFits}
 use Rattle.dna.specs.Walk.{Walk}
 use Rattle.format.specs.Header.{header_of, read_count}
@@ -37,7 +37,7 @@ module _ (bases : ℕ) (reference input : List ℕ) (ready : BlockReady bases re
             );
         groups =
             eqb-true (length (section_of input n_number)) (group_count (read_count (header_of input)))
-            (not_false
+            (not-false
             (eqb (length (section_of input n_number)) (group_count (read_count (header_of input))))
             ready.groups);
       }

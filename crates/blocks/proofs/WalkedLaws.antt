@@ -51,7 +51,7 @@ module _ (source : Source) (fixed : Bool) (each : ℕ) (lengths' : List ℕ) (af
   unfolding walk_answer
   walked_refused number read e =
       let go : (answer : Walk Division) → section ≡ answer → answer ≡ refused_at read number
-      = λ answer. elim answer [
+      = elim [
         | found division end ↦ λ is.
             let all : AllReads source fixed each lengths' division end =
             reads_found source fixed each lengths' after bytes size-bytes long division end is in
@@ -81,7 +81,7 @@ module _ (source : Source) (fixed : Bool) (each : ℕ) (lengths' : List ℕ) (af
       let go : (answer : Walk Division)
       → section_walk source.bases lengths' source.ns source.dna ≡ answer
       → SectionWalked source fixed each lengths' differences reference cursor counts
-      = λ answer. elim answer [
+      = elim [
         | refused why ↦ λ is.
             let z : walks.At cursor last counts ≡ walks.Refused why.number why.read =
             e

@@ -11,7 +11,7 @@ use Rattle.base.specs.Lists.{keep, places_where, All}
 use Rattle.base.specs.Paste.{pasted}
 use Rattle.base.proofs.ListLaws.{by_test, below_at}
 use Rattle.base.proofs.PasteLaws.{length_pasted, take_pasted}
-use Rattle.base.proofs.Tests.{and_both, not_true}
+use Rattle.base.proofs.Tests.{and_both, not-true}
 use Rattle.dna.specs.Record.{max_entries, Entry, EntryFits, entry_byte}
 use Rattle.dna.specs.RecordAt.{entries_at}
 use Rattle.format.specs.RuleEntries.{differs_at, gaps_of}
@@ -130,7 +130,7 @@ stretch-fit letters start aligned fits reference forward leftmost =
     let plain = (and_both (not (eqb (get_or codes k 0) 4)) _ e).0 in
     omega (
       arith,
-      eqb-false (get_or codes k 0) 4 (not_true _ plain),
+      eqb-false (get_or codes k 0) 4 (not-true _ plain),
       below_at codes (omega arith) fits.known k,
     )))
 

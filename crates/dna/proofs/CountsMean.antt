@@ -13,7 +13,7 @@ use borrow.Author.Tests.{eqb-false, eq-eqb, ne_eqb}
 use Rattle.base.specs.Lists.{index_of, count_true, total, All}
 use Rattle.base.specs.Faults.{NoneFits}
 use Rattle.base.proofs.ListLaws.{by_test, length-build, get_or-build, count_true-cons}
-use Rattle.base.proofs.Tests.{and_both, both_and, not_true, false_not, neither_or}
+use Rattle.base.proofs.Tests.{and_both, both_and, not-true, false_not, neither_or}
 use Rattle.base.proofs.AnswerLaws.{cond_yes, cond_no}
 use Rattle.dna.specs.Reference.{strand_base, alphabet, letter_of_code}
 use Rattle.dna.specs.Record.{ReadContext, Entry, EntryFits, RecordFields, perfect, global}
@@ -154,8 +154,8 @@ module _ (reference : List ℕ) (context : ReadContext) (stored : StoredRecord)
   difference_means = (
     λ t.
         let both = and_both (not (eqb code given)) _ t in
-        let clear : is_under_n stored number ≡ false = not_true (is_under_n stored number) both.1 in
-        let other = eqb-false code given (not_true (eqb code given) both.0) in (
+        let clear : is_under_n stored number ≡ false = not-true (is_under_n stored number) both.1 in
+        let other = eqb-false code given (not-true (eqb code given) both.0) in (
           λ e. n_not code small (sym (not_under_n clear) ∙ e),
           λ e. other (same-letter code given (omega (arith, small)) (omega (arith, below)) (sym (not_under_n clear) ∙ e)),
         ),

@@ -14,7 +14,7 @@ use Rattle.base.specs.Lists.{any, Below, AllBytes, All}
 use Rattle.base.specs.Packed.{packed_length, pack, symbols_at}
 use Rattle.base.specs.Place.{At}
 use Rattle.base.specs.Answer.{found}
-use Rattle.base.proofs.ListLaws.{length-build, get_or-build, below_at, below-append, all_get_d}
+use Rattle.base.proofs.ListLaws.{length-build, get_or-build, below_at, below-append, all_get_or}
 use Rattle.base.proofs.ListLaws.{all_build}
 use Rattle.base.proofs.AtLaws.{at_left, at_right, at_both, at_head, at_tail, at-cons, at-nil}
 use Rattle.base.proofs.PackedLaws.{length-pack, length-symbols_at, packed_length-holds}
@@ -64,7 +64,7 @@ entries_at-entries entries {list} {at} fits a =
     let m : k < length entries = rw length-build at l in
     get_or-build (length entries) (λ k. entry_of (get_or list (at + k) 0)) k entry0 m
     ∙ ap entry_of (a.same k (rw length-entries m) ∙ entries_get_or entries k)
-    ∙ entry-back (get_or entries k entry0) (all_get_d EntryFits entries entry0 fits k m))
+    ∙ entry-back (get_or entries k entry0) (all_get_or EntryFits entries entry0 fits k m))
 
 pub entries-entries_at : {list : List ℕ} (at n : ℕ) → at + n ≤ length list → At list at (map entry_byte (entries_at list at n))
 unfolding entries_at entry_byte entry_of

@@ -25,7 +25,7 @@ use Rattle.base.proofs.AtLaws.{at_both, at-to}
 use Rattle.base.proofs.GroupLaws.{length-in_groups}
 use Rattle.base.proofs.AnswerLaws.{refuses-with, absurd-refused, numbered, some-none, checked_stops}
 use Rattle.base.proofs.AnswerLaws.{and_then_stops}
-use Rattle.base.proofs.Tests.{neither_or, not_false, true_not, any_none}
+use Rattle.base.proofs.Tests.{neither_or, not-false, true_not, any_none}
 use Rattle.dna.specs.Division.{GroupFlags, flags_at, Group, Division, Slot, Read, group_bytes}
 use Rattle.dna.specs.Division.{division_bytes, context_of, group_slots, slots, reads_from}
 use Rattle.dna.specs.Division.{reads_of, ReadMeets, group_bit_stray, with_n_byte_wrong, GroupMeets}
@@ -128,7 +128,7 @@ module _ (bases : ℕ) (lengths n_section dna : List ℕ) (refusal : ReadRefusal
               (all_append ReadMeets (reads_from bases 0 before) _ s.meet.records r.meet);
           some = r.some;
           no_stray_bit = no 1 (omega arith);
-          with_n = eqb-true flags.with_n n_byte (not_false (eqb flags.with_n n_byte) (no 2 (omega arith)));
+          with_n = eqb-true flags.with_n n_byte (not-false (eqb flags.with_n n_byte) (no 2 (omega arith)));
         };
         index = r.index;
         inside = s.inside;

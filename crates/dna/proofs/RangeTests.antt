@@ -10,7 +10,7 @@ use lib.Dec.{leb, ltb, eqb}
 use borrow.Author.Tests.{ltb-true, leb-true, eqb-true}
 use Rattle.base.specs.Lists.{All}
 use Rattle.base.specs.Packed.{packed_length}
-use Rattle.base.proofs.Tests.{absurd_test, and_both, not_true, below_test, test_below}
+use Rattle.base.proofs.Tests.{absurd_test, and_both, not-true, below_test, test_below}
 use Rattle.dna.specs.Record.{max_entries, max_entry_offset, ReadContext, Entry, PackedCodes}
 use Rattle.dna.specs.Record.{RecordFields, perfect, global, local, raw, raw4, StoredRecord}
 use Rattle.dna.specs.Record.{field_width, has_n_list, EntryFits, PackedFits, FieldsFit}
@@ -126,7 +126,7 @@ fields_fit context (perfect field) e =
 fields_fit context (global field entries) e =
     let holds = every-at _ e in
     record {
-      kind = not_true context.perfect_bit (holds 0 (omega arith));
+      kind = not-true context.perfect_bit (holds 0 (omega arith));
       field_fits = ltb-true field _ (holds 1 (omega arith));
       count = leb-true (length entries) max_entries (holds 2 (omega arith));
       entries_fit = entries_fit entries (holds 3 (omega arith));
@@ -134,7 +134,7 @@ fields_fit context (global field entries) e =
 fields_fit context (local field entries left right clipped) e =
     let holds = every-at _ e in
     record {
-      kind = not_true context.perfect_bit (holds 0 (omega arith));
+      kind = not-true context.perfect_bit (holds 0 (omega arith));
       field_fits = ltb-true field _ (holds 1 (omega arith));
       count = leb-true (length entries) max_entries (holds 2 (omega arith));
       entries_fit = entries_fit entries (holds 3 (omega arith));
@@ -145,13 +145,13 @@ fields_fit context (local field entries left right clipped) e =
 fields_fit context (raw letters) e =
     let holds = every-at _ e in
     record {
-      kind = not_true context.perfect_bit (holds 0 (omega arith));
+      kind = not-true context.perfect_bit (holds 0 (omega arith));
       letters_fit = packed_fits 4 4 context.read_length letters (holds 1 (omega arith));
     }
 fields_fit context (raw4 letters) e =
     let holds = every-at _ e in
     record {
-      kind = not_true context.perfect_bit (holds 0 (omega arith));
+      kind = not-true context.perfect_bit (holds 0 (omega arith));
       letters_fit = packed_fits 16 2 context.read_length letters (holds 1 (omega arith));
     }
 

@@ -11,7 +11,7 @@ use borrow.Author.Tests.{ltb-false, eqb-true}
 use Rattle.base.specs.Lists.{AllBytes}
 use Rattle.base.specs.Packed.{symbol_at}
 use Rattle.base.proofs.ListLaws.{length-build, get_or-build, build_cong, below-build}
-use Rattle.base.proofs.Tests.{or-neither, not_false}
+use Rattle.base.proofs.Tests.{or-neither, not-false}
 use Rattle.base.proofs.PackedLaws.{digit-below}
 use Rattle.dna.specs.Reference.{max_reference_bases, reference_size_wrong, ReferenceFits}
 use Rattle.dna.specs.Reference.{reference_base, complement, strand_base, stretch_index}
@@ -26,7 +26,7 @@ unfolding reference_size_wrong
 reference-length {bases} {reference} size =
     let both = or-neither (ltb max_reference_bases bases) (not (eqb (length reference) ((bases + 3) / 4))) size.fits in (
       ltb-false max_reference_bases bases both.0,
-      eqb-true (length reference) ((bases + 3) / 4) (not_false _ both.1),
+      eqb-true (length reference) ((bases + 3) / 4) (not-false _ both.1),
     )
 
 -- ---- One base
@@ -98,7 +98,7 @@ unfolding stretch_index
 stretch-piece reference forward leftmost bases k count g inside at j h =
     let same : (forward : Bool) → g ≡ piece_leftmost forward leftmost bases k count
     → stretch_index forward g count j ≡ stretch_index forward leftmost bases (k + j) =
-    λ forward. elim forward [ true ↦ λ e. omega arith | false ↦ λ e. omega arith ] in
+    elim [ true ↦ λ e. omega arith | false ↦ λ e. omega arith ] in
     get_or-stretch_letters reference forward g count j h
     ∙ ap (λ (i : ℕ). letter_of_code (strand_base reference forward i)) (same forward at)
     ∙ sym (get_or-stretch_letters reference forward leftmost bases (k + j) (omega arith))

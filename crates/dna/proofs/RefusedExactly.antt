@@ -18,7 +18,7 @@ use Rattle.base.specs.Answer.{first_number, refused}
 use Rattle.base.proofs.ListLaws.{by_order, all_left, all_right}
 use Rattle.base.proofs.AtLaws.{at_left, at_right, at-nil, at-to}
 use Rattle.base.proofs.AnswerLaws.{checked-none, checked-first, numbered, and_then-refused}
-use Rattle.base.proofs.Tests.{neither_or, not_false, true_not, any_none}
+use Rattle.base.proofs.Tests.{neither_or, not-false, true_not, any_none}
 use Rattle.dna.specs.Record.{perfect}
 use Rattle.dna.specs.Division.{GroupFlags, flags_at, Piece, Group, Division, Slot, Read}
 use Rattle.dna.specs.Division.{group_bytes, division_bytes, context_of, group_slots, slots}
@@ -65,7 +65,7 @@ group_faulty ours n_byte dna place never =
     (record {
       reads = length-replicate (length ours) empty-piece;
       no_stray_bit = no 1 (omega arith);
-      with_n = eqb-true flags.with_n n_byte (not_false (eqb flags.with_n n_byte) (no 2 (omega arith)));
+      with_n = eqb-true flags.with_n n_byte (not-false (eqb flags.with_n n_byte) (no 2 (omega arith)));
     })
     (group-stands place pieces fits (rw empty-pieces (at-nil fits)))))
 

@@ -14,7 +14,7 @@ use Rattle.base.specs.Groups.{byte_bit_stray}
 use Rattle.base.specs.Faults.{NoneFits}
 use Rattle.base.proofs.BitLaws.{stray-clear, clear_stray}
 use Rattle.base.proofs.ListLaws.{by_test, below-nil, below-cons}
-use Rattle.base.proofs.Tests.{or-neither, neither_or, and_first, not_false, true_not, beq_same}
+use Rattle.base.proofs.Tests.{or-neither, neither_or, and_first, not-false, true_not, beq_same}
 use Rattle.base.proofs.Tests.{same_beq}
 use Rattle.dna.specs.Record.{ReadContext, RecordFields, perfect, global, local, raw, raw4}
 use Rattle.dna.specs.Record.{StoredRecord, flag_byte_of, has_n_list}
@@ -139,7 +139,7 @@ unfolding any
 zero-below [] e = below-nil 1
 zero-below (x ∷ xs) e =
     let parts = or-neither (not (eqb x 0)) _ e in
-    below-cons x xs (omega (arith, eqb-true x 0 (not_false (eqb x 0) parts.0))) (zero-below xs parts.1)
+    below-cons x xs (omega (arith, eqb-true x 0 (not-false (eqb x 0) parts.0))) (zero-below xs parts.1)
 
 pub below-zero : (list : List ℕ) → Below 1 list → any (λ x. not (eqb x 0)) list ≡ false
 unfolding any
@@ -154,7 +154,7 @@ raw4-bit context (perfect field) e = tt
 raw4-bit context (global field entries) e = tt
 raw4-bit context (local field entries left right clipped) e = tt
 raw4-bit context (raw letters) e = tt
-raw4-bit context (raw4 letters) e = beq_same context.with_n (member 4 letters.codes) (not_false _ e)
+raw4-bit context (raw4 letters) e = beq_same context.with_n (member 4 letters.codes) (not-false _ e)
 
 pub bit-raw4 : (context : ReadContext) (fields : RecordFields) → Raw4BitHolds context fields → raw4_bit_wrong context fields ≡ false
 unfolding raw4_bit_wrong

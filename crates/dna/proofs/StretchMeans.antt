@@ -7,7 +7,7 @@ use mathlib.Core.Bool.{Bool, true, false, cond, ◌||◌}
 use lib.Dec.{leb, ltb}
 use borrow.Author.Tests.{ltb-false, leb-false, le-ltb, lt-leb}
 use Rattle.base.proofs.ListLaws.{by_test}
-use Rattle.base.proofs.Tests.{absurd_test, and_first, or-neither, neither_or, not_true, false_not}
+use Rattle.base.proofs.Tests.{absurd_test, and_first, or-neither, neither_or, not-true, false_not}
 use Rattle.dna.specs.Reference.{stretch_index}
 use Rattle.dna.specs.Record.{ReadContext, RecordFields, perfect, global, local, raw, raw4}
 use Rattle.dna.specs.Alignment.{is_aligned, field_of, aligned_length, position, is_local}
@@ -22,7 +22,7 @@ pub down_reverse : (context : ReadContext) (fields : RecordFields) → runs_down
 unfolding runs_down is_local
 down_reverse context (perfect field) e = absurd_test (sym e)
 down_reverse context (global field entries) e = absurd_test (sym e)
-down_reverse context (local field entries left right clipped) e = not_true context.forward e
+down_reverse context (local field entries left right clipped) e = not-true context.forward e
 down_reverse context (raw letters) e = absurd_test (sym e)
 down_reverse context (raw4 letters) e = absurd_test (sym e)
 

@@ -16,7 +16,7 @@ use Rattle.base.proofs.GroupLaws.{length-in_groups}
 use Rattle.base.proofs.AtLaws.{at_take, at_same, at_both, at-cons, at-nil, at-to}
 use Rattle.base.specs.Answer.{found, refused_as}
 use Rattle.base.proofs.AnswerLaws.{found-same, checked-found, and_then-parts, found-refused_as}
-use Rattle.base.proofs.Tests.{or-neither, not_false}
+use Rattle.base.proofs.Tests.{or-neither, not-false}
 use Rattle.dna.specs.Record.{ReadContext, record_bytes}
 use Rattle.dna.specs.Alignment.{position_after}
 use Rattle.dna.specs.Division.{GroupFlags, flags_at, Piece, Group, Division, Slot, Read}
@@ -90,7 +90,7 @@ group-found bases read previous lengths n_byte {list} at {group} {next} bytes e 
       meets = record {
         reads = f.counted;
         no_stray_bit = second.0;
-        with_n = eqb-true flags.with_n n_byte (not_false (eqb flags.with_n n_byte) third.0);
+        with_n = eqb-true flags.with_n n_byte (not-false (eqb flags.with_n n_byte) third.0);
       };
       reads = f.meet;
       stands =

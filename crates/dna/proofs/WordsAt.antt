@@ -25,7 +25,7 @@ checked-same {A} refuse (f ∷ fs) rest other same =
     let go : (t : Bool) → (t || any (λ g. g.fits) fs ≡ false → rest ≡ other)
     → cond {A = A} t (refuse f.number) (checked refuse fs rest)
     ≡ cond t (refuse f.number) (checked refuse fs other)
-    = λ t. elim t [ true ↦ λ h. refl | false ↦ λ h. checked-same refuse fs rest other h ] in
+    = elim [ true ↦ λ h. refl | false ↦ λ h. checked-same refuse fs rest other h ] in
     go f.fits same
 
 -- The faults of the word at a place.

@@ -11,7 +11,7 @@ use borrow.Author.Tests.{eqb-true, ltb-false}
 use Rattle.base.specs.Lists.{any, member, steps_from}
 use Rattle.base.specs.Faults.{Fault}
 use Rattle.base.proofs.AnswerLaws.{any-first_number}
-use Rattle.base.proofs.Tests.{or-neither, any_none, not_false}
+use Rattle.base.proofs.Tests.{or-neither, any_none, not-false}
 use Rattle.dna.specs.Reference.{alphabet, reference_size_wrong}
 use Rattle.dna.specs.Sizes.{max_read_length, length_invalid}
 use Rattle.format.specs.HeaderFaults.{max_reads}
@@ -35,7 +35,7 @@ pub record WellLent (bases : ℕ) (reference : List ℕ) (input : EncodeInput) :
 -- ---- 31
 
 equal : (m n : ℕ) → not (eqb m n) ≡ false → m ≡ n
-equal m n e = eqb-true m n (not_false (eqb m n) e)
+equal m n e = eqb-true m n (not-false (eqb m n) e)
 
 -- ---- 32
 
@@ -108,7 +108,7 @@ module _ (bases : ℕ) (reference : List ℕ) (input : EncodeInput)
               inside = omega (arith, here.within, last);
               sized = here.short;
               known = λ k low high.
-                  not_false (member (get_or input.letters k 0) alphabet)
+                  not-false (member (get_or input.letters k 0) alphabet)
                   (any_none (λ letter. not (member letter alphabet)) input.letters p33.0 k 0
                   (omega (arith, here.within, last)));
             };

@@ -30,9 +30,9 @@ larger-flags true false = refl
 larger-flags false true = refl
 larger-flags false false = refl
 
-or_false : (a : Bool) → a || false ≡ a
-or_false true = refl
-or_false false = refl
+or-false : (a : Bool) → a || false ≡ a
+or-false true = refl
+or-false false = refl
 
 -- The five letters.
 pub letter-flag : (letter : ℕ)
@@ -50,7 +50,7 @@ letter-flag letter =
     ∙ ap (λ (x : ℕ). min (cond a 0 1) (min (cond c 0 1) x)) (smaller-flags g (t || n))
     ∙ ap (λ (x : ℕ). min (cond a 0 1) x) (smaller-flags c (g || (t || n)))
     ∙ smaller-flags a (c || (g || (t || n)))
-    ∙ ap (λ (x : Bool). cond (a || (c || (g || (t || x)))) 0 1) (sym (or_false n))
+    ∙ ap (λ (x : Bool). cond (a || (c || (g || (t || x)))) 0 1) (sym (or-false n))
 
 -- One more letter is looked at.
 pub letters_turn : (letters : List ℕ) (i flag : ℕ) → i < length letters

@@ -16,7 +16,7 @@ use Rattle.base.specs.Numbers.{le, non_negative}
 use Rattle.base.proofs.NumberLaws.{le_below}
 use Rattle.base.specs.Faults.{NoneFits}
 use Rattle.base.specs.Answer.{found, refused_as}
-use Rattle.base.proofs.Tests.{absurd_test, or-neither, neither_or, and_first, not_false}
+use Rattle.base.proofs.Tests.{absurd_test, or-neither, neither_or, and_first, not-false}
 use Rattle.base.proofs.ListLaws.{by_test, no_length_lem, below-take, below-drop}
 use Rattle.base.proofs.AnswerLaws.{found-same, checked-none, checked-found, and_then-found}
 use Rattle.base.proofs.AnswerLaws.{and_then-parts, refused_as-found, found-refused_as, cond_yes}
@@ -110,7 +110,7 @@ unfolding lengths_answer lengths_given
 lengths-find input lengths h =
     let go : (t : Bool) → flag_set (header_of input).flags same_length_flag ≡ t → LengthsBy t (header_of input) (section_of input size_number) lengths
     → (next : ℕ) × (lengths_answer input ≡ found lengths next)
-    = λ t. elim t [
+    = elim [
       | true ↦ λ e l. (0, cond_yes _ e (header-lengths-find (header_of input) (section_of input size_number) lengths l))
       | false ↦ λ e l. (
         length (section_of input size_number),
@@ -129,7 +129,7 @@ lengths-found input lengths next bytes e =
     let go : (t : Bool)
     → cond t (fixed_lengths (non_negative header.l_read) (read_count header) section) (sizes_answer (read_count header) section) ≡ found lengths next
     → LengthsBy t (header_of input) (section_of input size_number) lengths
-    = λ t. elim t [
+    = elim [
       | true ↦ λ h. header-lengths-found header section lengths next h
       | false ↦ λ h.
           let a = answer-sizes (read_count (header_of input)) (section_of input size_number) lengths next bytes h in
@@ -161,7 +161,7 @@ names-find input names short h =
     let section : List ℕ = section_of input names_number in
     let go : (t : Bool) → flag_set (header_of input).flags names_flag ≡ t → NamesBy t reads section names
     → (next : ℕ) × (names_answer input ≡ found names next)
-    = λ t. elim t [
+    = elim [
       | true ↦ λ e l. (length section, cond_yes _ e (stored-given reads section names (omega arith) l))
       | false ↦ λ e l. (0, cond_no _ e (ap (λ (ns : List (List ℕ)). found ns 0) (sym l)))
     ] in
@@ -175,7 +175,7 @@ names-answered input names next bytes e =
     let reads : ℕ = read_count (header_of input) in
     let section : List ℕ = section_of input names_number in
     let go : (t : Bool) → cond t (names_given reads section) (found [] 0) ≡ found names next → NamesBy t reads section names
-    = λ t. elim t [
+    = elim [
       | true ↦ λ h. (given-stored reads section names next bytes h).0
       | false ↦ λ h. sym (found-same h).0
     ] in
@@ -289,7 +289,7 @@ groups-counted input lengths are none =
     let size = or-neither (n_section_wrong input) _ (or-neither (dna_size_wrong input lengths) _ none).1 in
     let many : length lengths ≡ read_count (header_of input) =
     lengths-count (flag_set (header_of input).flags same_length_flag) (header_of input) (section_of input size_number) lengths are in
-    eqb-true _ _ (not_false (eqb (length (section_of input n_number)) (group_count (read_count (header_of input)))) size.0)
+    eqb-true _ _ (not-false (eqb (length (section_of input n_number)) (group_count (read_count (header_of input)))) size.0)
     ∙ ap group_count (sym many)
 
 -- What an accepted input begins with.

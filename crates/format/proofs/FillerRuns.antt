@@ -12,7 +12,7 @@ use borrow.Author.Tests.{eq-eqb}
 use Rattle.base.specs.Lists.{places_from, All}
 use Rattle.base.proofs.ListLaws.{by_order}
 use Rattle.base.proofs.PlacesWhereLaws.{Rise}
-use Rattle.base.proofs.Tests.{absurd_test, and_both, not_true}
+use Rattle.base.proofs.Tests.{absurd_test, and_both, not-true}
 use Rattle.dna.specs.Record.{Entry}
 use Rattle.format.specs.RuleEntries.{filler_count, gap_entries, entries_of_gaps, differs_at}
 use Rattle.format.specs.RuleEntries.{gaps_to}
@@ -204,7 +204,7 @@ runs_of_gaps expected codes bound from low [] below r all = no-runs _ _ _ (Diffe
 runs_of_gaps expected codes bound from low (there ∷ places) below r all =
     let Such : ℕ → Type 0 = Differs expected codes bound in
     let other : eqb (get_or codes there 0) (expected there) ≡ false =
-    not_true (eqb (get_or codes there 0) (expected there)) (and_both (not (eqb (get_or codes there 0) 4)) _ all.0).1 in
+    not-true (eqb (get_or codes there 0) (expected there)) (and_both (not (eqb (get_or codes there 0) 4)) _ all.0).1 in
     let gap : ℕ = there - from in
     let code : ℕ = get_or codes there 0 in
     let n : ℕ = filler_count gap in

@@ -10,7 +10,7 @@ use lib.Dec.{ltb, eqb}
 use Rattle.base.specs.Lists.{build, part, member, places_where}
 use Rattle.base.proofs.ListLaws.{by_test}
 use Rattle.base.proofs.PlacesWhereLaws.{places_rise, all_keep}
-use Rattle.base.proofs.Tests.{and_both, both_and, not_true, false_not}
+use Rattle.base.proofs.Tests.{and_both, both_and, not-true, false_not}
 use Rattle.dna.specs.Record.{ReadContext, Entry, RecordFields, StoredRecord}
 use Rattle.dna.specs.Alignment.{entries_of, entry_places, n_positions}
 use Rattle.dna.specs.Counts.{is_filler, is_under_n, is_difference}
@@ -104,7 +104,7 @@ module _ (bases : ℕ) (reference : List ℕ) (previous : ℕ) (codes : List ℕ
       ap (λ (left : ℕ). member (left + k) (n_positions (n_offsets_of codes))) place.left
       ∙ n-member codes (candidate.left + k) (omega (arith, found.0))
       ∙ ap (λ (code : ℕ). eqb code 4) (sym letter)
-      ∙ not_true (eqb (get_or own k 0) 4) (and_both (not (eqb (get_or own k 0) 4)) _ found.1).0
+      ∙ not-true (eqb (get_or own k 0) 4) (and_both (not (eqb (get_or own k 0) 4)) _ found.1).0
 
   differs : (number : ℕ) → number < length (entries_of fields) → is_filler reference context fields number ≡ false
       → is_difference reference context stored number ≡ true
@@ -113,7 +113,7 @@ module _ (bases : ℕ) (reference : List ℕ) (previous : ℕ) (codes : List ℕ
 
   no_filler : (number : ℕ) → is_difference reference context stored number ≡ true → is_filler reference context fields number ≡ false
   unfolding is_difference
-  no_filler number d = not_true _ (and_both (not (is_filler reference context fields number)) _ d).0
+  no_filler number d = not-true _ (and_both (not (is_filler reference context fields number)) _ d).0
 
   right_after : (number : ℕ) → number < length (entries_of fields)
       → Run (is_filler reference context fields) (offset_of_entry stored) (letter_of_entry stored) 0 number

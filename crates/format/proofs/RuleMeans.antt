@@ -13,8 +13,8 @@ use borrow.Author.Tests.{ltb-true, leb-true, eqb-true, lt-ltb, le-ltb, le-leb, e
 use borrow.Author.Tests.{ltb-false, eqb-false}
 use Rattle.base.specs.Lists.{any, All, member, steps_from}
 use Rattle.base.proofs.ListLaws.{by_test}
-use Rattle.base.proofs.Tests.{absurd_test, and_both, both_and, or-neither, neither_or, not_false}
-use Rattle.base.proofs.Tests.{or_right, true_not, not_true, false_not}
+use Rattle.base.proofs.Tests.{absurd_test, and_both, both_and, or-neither, neither_or, not-false}
+use Rattle.base.proofs.Tests.{or_right, true_not, not-true, false_not}
 use Rattle.base.proofs.AnswerLaws.{cond_yes, cond_no}
 use Rattle.dna.specs.Sizes.{StoredSize, length_invalid}
 use Rattle.format.specs.RuleRecord.{Candidate, n_offsets_of, aligned_count, candidate_entries}
@@ -134,7 +134,7 @@ unfolding any
 none_other size [] e = tt
 none_other size (x ∷ xs) e =
     let both = or-neither (not (eqb x size)) _ e in
-    (eqb-true x size (not_false (eqb x size) both.0), none_other size xs both.1)
+    (eqb-true x size (not-false (eqb x size) both.0), none_other size xs both.1)
 
 other_none : (size : ℕ) (list : List ℕ) → All (λ other. other ≡ size) list
     → any (λ other. not (eqb other size)) list ≡ false
@@ -223,7 +223,7 @@ all_letters [] = (λ e. tt, λ h. refl)
 all_letters (x ∷ xs) = (
   λ e.
       let both = or-neither (not (member x (65 ∷ 67 ∷ 71 ∷ 84 ∷ 78 ∷ []))) _ e in
-      (not_false _ both.0, (all_letters xs).0 both.1),
+      (not-false _ both.0, (all_letters xs).0 both.1),
   λ h. neither_or _ _ (true_not _ h.0) ((all_letters xs).1 h.1),
 )
 
@@ -278,7 +278,7 @@ rule-means =
       differs = λ expected codes k. (
         λ e.
             let both = and_both (not (eqb (get_or codes k 0) 4)) _ e in
-            (eqb-false (get_or codes k 0) 4 (not_true _ both.0), eqb-false (get_or codes k 0) (expected k) (not_true _ both.1)),
+            (eqb-false (get_or codes k 0) 4 (not-true _ both.0), eqb-false (get_or codes k 0) (expected k) (not-true _ both.1)),
         λ h. both_and _ _ (false_not _ (ne_eqb (get_or codes k 0) 4 h.0)) (false_not _ (ne_eqb (get_or codes k 0) (expected k) h.1)),
       );
       none = λ gap small. omega arith;

@@ -17,7 +17,7 @@ use Rattle.base.specs.Numbers.{le, signed, int32, non_negative}
 use Rattle.base.specs.Groups.{group_count}
 use Rattle.base.specs.Faults.{NoneFits}
 use Rattle.base.proofs.ListLaws.{by_test}
-use Rattle.base.proofs.Tests.{absurd_test, or-neither, neither_or, not_false, true_not}
+use Rattle.base.proofs.Tests.{absurd_test, or-neither, neither_or, not-false, true_not}
 use Rattle.base.proofs.AnswerLaws.{cond_yes, cond_no}
 use Rattle.dna.specs.Reference.{reference_size_wrong}
 use Rattle.dna.specs.Sizes.{length_invalid}
@@ -40,7 +40,7 @@ use Rattle.format.proofs.SectionLaws.{length-section_of}
 
 pub equal_test : (a b : ℕ) → (not (eqb a b) ≡ false) ↔ (a ≡ b)
 equal_test a b = (
-  λ e. eqb-true a b (not_false (eqb a b) e),
+  λ e. eqb-true a b (not-false (eqb a b) e),
   λ e. true_not (eqb a b) (eq-eqb a b e),
 )
 

@@ -88,7 +88,7 @@ record-length context stored fits rules =
     let front : List ℕ = fields_bytes context stored.fields in
     let go : (t : Bool) → (t ≡ true → NListHolds context.read_length stored.n_offsets)
     → 8 * length (front ++ cond t (n_list_bytes stored.n_offsets) []) ≤ 5 * context.read_length + 2000
-    = λ t. elim t [
+    = elim [
       | true ↦ λ h.
           omega (
             arith,

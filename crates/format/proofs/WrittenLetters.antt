@@ -12,7 +12,7 @@ use Rattle.base.specs.Lists.{part, member, places_from, places_where}
 use Rattle.base.proofs.ListLaws.{by_order, by_test, no_length_lem, length-build, get_or-build}
 use Rattle.base.proofs.PlacesWhereLaws.{places_rise, member-places, places-steps}
 use Rattle.base.proofs.AnswerLaws.{cond_yes, cond_no}
-use Rattle.base.proofs.Tests.{and_both, and_first, not_true, not_false, true_not, false_not}
+use Rattle.base.proofs.Tests.{and_both, and_first, not-true, not-false, true_not, false_not}
 use Rattle.dna.specs.Reference.{strand_base, stretch_index, letter_of_code}
 use Rattle.dna.specs.Record.{ReadContext, Entry, RecordFields, StoredRecord}
 use Rattle.dna.specs.Alignment.{is_aligned, field_of, entries_of, left_of, right_of, aligned_length}
@@ -153,7 +153,7 @@ module _ (bases : ℕ) (reference : List ℕ) (previous : ℕ) (codes : List ℕ
   unfolding stored_position
   low_enough t =
       let up : Bool = eqb (candidate.left + candidate.right) 0 || eqb candidate.strand 1 in
-      let stored = position_is ∙ cond_no candidate.position (not_true up (sym down_is ∙ t)) refl in
+      let stored = position_is ∙ cond_no candidate.position (not-true up (sym down_is ∙ t)) refl in
       omega (arith, stored, aligned_is)
 
   pub leftmost_is : leftmost context fields ≡ candidate.position
@@ -230,7 +230,7 @@ module _ (bases : ℕ) (reference : List ℕ) (previous : ℕ) (codes : List ℕ
       ∙ by_test (differs_at expected aligned_codes k)
       (λ t. cond_yes (expected k) t is)
       (λ t.
-      let same : c ≡ expected k = eqb-true c (expected k) (not_false (eqb c (expected k)) (and_first (not (eqb c 4)) _ t no-n)) in
+      let same : c ≡ expected k = eqb-true c (expected k) (not-false (eqb c (expected k)) (and_first (not (eqb c 4)) _ t no-n)) in
       cond_no c t (sym same ∙ is))
 
   -- The codes of the ends, left first, are those of the read.

@@ -21,7 +21,7 @@ use Rattle.base.proofs.PackedLaws.{packed_length-holds}
 use Rattle.base.proofs.PlacesWhereLaws.{Rise, rise_weaken, places_rise, any-places, places-any}
 use Rattle.base.proofs.PlacesWhereLaws.{all_keep}
 use Rattle.base.proofs.StepsLaws.{length-steps_from}
-use Rattle.base.proofs.Tests.{absurd_test, and_both, neither_or, not_true}
+use Rattle.base.proofs.Tests.{absurd_test, and_both, neither_or, not-true}
 use Rattle.dna.specs.Reference.{letter_of_code}
 use Rattle.dna.specs.Record.{ReadContext, Entry, EntryFits, PackedFits, RecordFields, field_width}
 use Rattle.dna.specs.Record.{has_n_list, FieldsFit, NListFits, RecordFits}
@@ -270,7 +270,7 @@ module _ (bases : ℕ) (reference : List ℕ) (previous : ℕ) (codes : List ℕ
       let plain = and_both (not (eqb (get_or al k 0) 4)) _ e in
       omega (
         arith,
-        eqb-false (get_or al k 0) 4 (not_true (eqb (get_or al k 0) 4) plain.0),
+        eqb-false (get_or al k 0) 4 (not-true (eqb (get_or al k 0) 4) plain.0),
         below-part codes candidate.left (aligned_count codes candidate) (omega arith) below k,
       )))
 

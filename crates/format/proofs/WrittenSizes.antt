@@ -10,7 +10,7 @@ use lib.Dec.{ltb, eqb}
 use borrow.Author.Tests.{ltb-true, eqb-true}
 use Rattle.base.specs.Lists.{any, All}
 use Rattle.base.proofs.ListLaws.{by_test}
-use Rattle.base.proofs.Tests.{and_both, or-neither, not_true, not_false}
+use Rattle.base.proofs.Tests.{and_both, or-neither, not-true, not-false}
 use Rattle.dna.specs.Sizes.{is_same, size_section_bytes, lengths_from, length_invalid, StoredFits}
 use Rattle.dna.specs.Sizes.{first_is_same, SizesStored}
 use Rattle.format.specs.RuleBlock.{stored_from, all_equal}
@@ -66,14 +66,14 @@ unfolding any
 equal_replicate size [] e = refl
 equal_replicate size (other ∷ lengths) e =
     let parts = or-neither (not (eqb other size)) _ e in
-    ap₂ ◌∷◌ (eqb-true other size (not_false (eqb other size) parts.0)) (equal_replicate size lengths parts.1)
+    ap₂ ◌∷◌ (eqb-true other size (not-false (eqb other size) parts.0)) (equal_replicate size lengths parts.1)
 
 -- Equal lengths are so many times the first.
 pub equal-lengths : (lengths : List ℕ) → all_equal lengths ≡ true → lengths ≡ replicate (length lengths) (get_or lengths 0 0)
 unfolding all_equal
 equal-lengths [] e = refl
 equal-lengths (size ∷ lengths) e =
-    ap (λ (rest : List ℕ). size ∷ rest) (equal_replicate size lengths (not_true _ e))
+    ap (λ (rest : List ℕ). size ∷ rest) (equal_replicate size lengths (not-true _ e))
 
 -- Equal lengths are those of some read.
 pub equal-some : (lengths : List ℕ) → all_equal lengths ≡ true → 0 < length lengths

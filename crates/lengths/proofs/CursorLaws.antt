@@ -94,10 +94,10 @@ fixed_left (suc n) size section cursor e =
     (some (replicate (suc n) size)))
     (sym (lt-ltb 0 (suc n) (omega arith)))
 
-or_false : (t u : Bool) → t || (u || false) ≡ t || u
-or_false true u = refl
-or_false false true = refl
-or_false false false = refl
+or-false : (t u : Bool) → t || (u || false) ≡ t || u
+or-false true u = refl
+or-false false true = refl
+or-false false false = refl
 
 pub fixed-found : (each n : ℕ) (section : List ℕ)
     → lengths_found (fixed_lengths each n section)
@@ -107,7 +107,7 @@ unfolding fixed_lengths lengths_found any
 fixed-found each n section =
     found-checked _ (found (replicate n each) 0)
     ∙ ap (λ (t : Bool). cond t none (some (replicate n each)))
-    (or_false (ltb 0 (length section)) (ltb 0 n && length_invalid each))
+    (or-false (ltb 0 (length section)) (ltb 0 n && length_invalid each))
 
 -- At the first read: the lengths of the block.
 pub lengths_left-first : (fixed : Bool) (each n : ℕ) (section : List ℕ) → AllBytes section

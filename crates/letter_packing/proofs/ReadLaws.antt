@@ -9,7 +9,7 @@ use lib.ListN.{length, get_or, take, drop, length-append, length-map, length-dro
 use lib.ListN.{get_or-map, get_or-append, get_or-eq_default}
 use lib.Seq.{get_or-take, get_or-drop, get_or-append-add, length-take-le, take-length, drop-length}
 use Rattle.base.specs.Lists.{part, any, member}
-use Rattle.base.proofs.Tests.{any_none, not_false}
+use Rattle.base.proofs.Tests.{any_none, not-false}
 use Rattle.dna.specs.Reference.{alphabet}
 use Rattle.dna.specs.Sizes.{max_read_length}
 use Rattle.format.specs.RuleRecord.{without_n, aligned_count, clipped_codes}
@@ -39,7 +39,7 @@ known-lies letters from to none order inside sized =
       inside = inside;
       sized = sized;
       known = λ i above below.
-          not_false _ (any_none (λ letter. not (member letter alphabet)) letters none i 0
+          not-false _ (any_none (λ letter. not (member letter alphabet)) letters none i 0
           (omega arith));
     }
 

@@ -9,7 +9,7 @@ use lib.ListN.{length, get_or, drop, length-drop}
 use lib.Seq.{length-take-le, get_or-take, get_or-drop, ext_get_or}
 use lib.Dec.{eqb}
 use Rattle.base.specs.Lists.{part, any, member}
-use Rattle.base.proofs.Tests.{any_none, not_false}
+use Rattle.base.proofs.Tests.{any_none, not-false}
 use Rattle.dna.specs.Reference.{alphabet}
 use Rattle.format.specs.RuleEntries.{gaps_of, entries_of_gaps}
 use Rattle.format.specs.RuleRecord.{Candidate, aligned_count, expected_at, candidate_gaps}
@@ -32,7 +32,7 @@ aligned-fits letters start aligned inside valid =
             let low : k < aligned = omega arith in
             let letter = get_or letters (start + k) 0 in
             let in-alphabet =
-            not_false _
+            not-false _
             (any_none (λ letter. not (member letter alphabet)) letters valid (start + k) 0
             (omega arith)) in
             subst (λ (code : ℕ). code < 5)

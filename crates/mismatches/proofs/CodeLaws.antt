@@ -11,7 +11,7 @@ use lib.Dec.{eqb}
 use borrow.Author.Tests.{eqb-true, eqb-false, eq-eqb, ne_eqb}
 use Rattle.base.specs.Lists.{part, index_of}
 use Rattle.base.proofs.ListLaws.{by_order, by_test}
-use Rattle.base.proofs.Tests.{and_both, not_true}
+use Rattle.base.proofs.Tests.{and_both, not-true}
 use Rattle.dna.specs.Reference.{code_n, letter_of_code}
 use Rattle.dna.proofs.ReferenceLaws.{strand_base-below}
 use Rattle.format.specs.RuleEntries.{differs_at}
@@ -155,6 +155,6 @@ difference-code letters start aligned fits reference forward leftmost k low diff
     get_or_aligned_codes letters start aligned fits.inside k low in
     let size = length_aligned_codes letters start aligned fits.inside in
     let known : get_or codes k 0 < 5 = fits.known.each k (omega arith) in
-    let no-n = eqb-false (get_or codes k 0) code_n (not_true _ (and_both _ _ differs).0) in
+    let no-n = eqb-false (get_or codes k 0) code_n (not-true _ (and_both _ _ differs).0) in
     by_order (get_or codes k 0) 4 (λ h. omega arith)
     (λ h. absurd (let n : get_or codes k 0 ≡ 4 = omega arith in no-n n))

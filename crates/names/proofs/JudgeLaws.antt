@@ -9,7 +9,7 @@ use lib.ListN.{length}
 use lib.Dec.{ltb, eqb}
 use borrow.Author.Tests.{eqb-true, eqb-false, ltb-false, lt-ltb}
 use Rattle.base.specs.Lists.{any, part, total}
-use Rattle.base.proofs.Tests.{or-neither, not_false}
+use Rattle.base.proofs.Tests.{or-neither, not-false}
 use Rattle.base.proofs.ListLaws.{by_order}
 use Rattle.tokens.specs.Split.{max_name}
 use Rattle.tokens.specs.ColumnsAt.{column_count, table_end, column_sizes, first_cursors, kind_invalid}
@@ -38,7 +38,7 @@ table_fits section columns places values e room room' =
       few = few;
       sizes =
           eqb-true (table_end columns + total (column_sizes section columns)) (length section)
-          (not_false _ kinds.1);
+          (not-false _ kinds.1);
       places_room = omega arith;
       values_room = omega arith;
     }

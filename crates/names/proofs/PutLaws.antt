@@ -9,7 +9,7 @@ use lib.Seq.{length-take-le}
 use borrow.Author.Tests.{eq-eqb, ne_eqb}
 use Rattle.base.specs.Lists.{any, part, member, index_of}
 use Rattle.base.specs.Decimal.{decimal}
-use Rattle.base.proofs.Tests.{not_false, any_none}
+use Rattle.base.proofs.Tests.{not-false, any_none}
 use Rattle.base.proofs.ListLaws.{get_or-build}
 use Rattle.base.proofs.IndexLaws.{index-found}
 use Rattle.tokens.specs.Columns.{max_number}
@@ -28,7 +28,7 @@ module _ (section : List ℕ) (first : Bool) (cursor : Cursor)
     -- It has a zero byte after it.
     pub string_ends : member 0 (drop cursor.place section) ≡ true
     unfolding token_invalid
-    string_ends = not_false _ (simp (eq-eqb cursor.kind 0 strings) at right)
+    string_ends = not-false _ (simp (eq-eqb cursor.kind 0 strings) at right)
 
     -- It is the bytes before that.
     pub string_is : token_at section first cursor

@@ -17,7 +17,7 @@ use Rattle.tokens.specs.WrittenNames.{not_number, value_of, value_from, steps_in
 use Rattle.tokens.specs.WrittenNames.{column_for}
 use Rattle.names_writer.specs.Steps.{no_number, number_of, first_kind, widened, kind_after}
 use Rattle.names_writer.proofs.ValueLaws.{value-most, number_is, number_none}
-use Rattle.names_writer.proofs.KindTests.{step_wrong, steps_by, kind_by, or_false}
+use Rattle.names_writer.proofs.KindTests.{step_wrong, steps_by, kind_by, or-false}
 use Rattle.names_writer.proofs.KindTests.{invalid-snoc, steps-snoc, kind_tests}
 
 -- Steps that are wide enough stay so, and a wider step widens them.
@@ -150,7 +150,7 @@ kind-more token tokens more =
     ∙ ap (λ (k : ℕ). get_or (start ∷ numbers) k 0) (sym (length-map tokens value_of)) in
     let more-none : any not_number ((token ∷ tokens) ++ (more ∷ [])) ≡ N || not_number more =
     any_append not_number (token ∷ tokens) (more ∷ [])
-    ∙ ap (λ (t : Bool). N || t) (or_false (not_number more)) in
+    ∙ ap (λ (t : Bool). N || t) (or-false (not_number more)) in
     ap (λ (kind : ℕ). kind_after kind previous (number_of more)) (kind_tests token tokens)
     ∙ tests-more N S W M more previous last near
     ∙ ap₂ (λ (s t : Bool). kind_by (s || t) (W || ltb 65535 (value_of more - last))

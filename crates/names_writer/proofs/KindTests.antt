@@ -21,9 +21,9 @@ last_of start numbers = get_or (start ∷ numbers) (length numbers) 0
 abbrev pub step_wrong : (previous number : ℕ) → Bool
 step_wrong previous number = ltb number previous || ltb (previous + max_step) number
 
-pub or_false : (t : Bool) → t || false ≡ t
-or_false true = refl
-or_false false = refl
+pub or-false : (t : Bool) → t || false ≡ t
+or-false true = refl
+or-false false = refl
 
 -- ---- One more number
 
@@ -31,7 +31,7 @@ pub invalid-snoc : (start : ℕ) (numbers : List ℕ) (number : ℕ)
     → steps_invalid start (numbers ++ (number ∷ []))
     ≡ steps_invalid start numbers || step_wrong (last_of start numbers) number
 unfolding steps_invalid
-invalid-snoc start [] number = or_false (step_wrong start number)
+invalid-snoc start [] number = or-false (step_wrong start number)
 invalid-snoc start (next ∷ numbers) number =
     ap (λ (t : Bool). step_wrong start next || t) (invalid-snoc next numbers number)
     ∙ sym (or_assoc (step_wrong start next) (steps_invalid next numbers)
@@ -41,7 +41,7 @@ pub steps-snoc : (bound start : ℕ) (numbers : List ℕ) (number : ℕ)
     → any (ltb bound) (steps_from start (numbers ++ (number ∷ [])))
     ≡ any (ltb bound) (steps_from start numbers) || ltb bound (number - last_of start numbers)
 unfolding any steps_from
-steps-snoc bound start [] number = or_false (ltb bound (number - start))
+steps-snoc bound start [] number = or-false (ltb bound (number - start))
 steps-snoc bound start (next ∷ numbers) number =
     ap (λ (t : Bool). ltb bound (next - start) || t) (steps-snoc bound next numbers number)
     ∙ sym (or_assoc (ltb bound (next - start)) (any (ltb bound) (steps_from next numbers))

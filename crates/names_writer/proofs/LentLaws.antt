@@ -11,7 +11,7 @@ use lib.Dec.{eqb}
 use borrow.Author.Tests.{eqb-true}
 use Rattle.base.specs.Lists.{part, any, steps_from}
 use Rattle.base.proofs.ListLaws.{length-build, get_or-build}
-use Rattle.base.proofs.Tests.{or-neither, not_false}
+use Rattle.base.proofs.Tests.{or-neither, not-false}
 use Rattle.tokens.specs.Split.{max_name, name_length_invalid}
 use Rattle.tokens.specs.WrittenNames.{names_lent, name_ends_invalid}
 use Rattle.tokens.proofs.RowMeaning.{valid-length}
@@ -75,7 +75,7 @@ module _ (bytes ends : List ℕ) where
     ends_valid =
         let both = or-neither (any name_length_invalid (steps_from 0 ends))
         (not (eqb (get_or (0 ∷ ends) (length ends) 0) (length bytes))) fit in
-        (both.0, eqb-true _ _ (not_false _ both.1))
+        (both.0, eqb-true _ _ (not-false _ both.1))
 
     pub name_lies : (i : ℕ) → i < length ends → Lies 0 ends i
     name_lies i h = lies-each 0 ends ends_valid.0 i h

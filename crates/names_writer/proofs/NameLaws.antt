@@ -10,7 +10,7 @@ use borrow.Author.Tests.{eqb-true}
 use Rattle.base.specs.Paste.{pasted}
 use Rattle.base.specs.Place.{At}
 use Rattle.base.proofs.AtPasteLaws.{at_pasted}
-use Rattle.base.proofs.Tests.{any_none, not_false}
+use Rattle.base.proofs.Tests.{any_none, not-false}
 use Rattle.tokens.specs.Columns.{column_type}
 use Rattle.tokens.specs.WrittenNames.{split_of, token_count, token_counts_differ, names_lent}
 use Rattle.tokens.specs.WrittenNames.{columns_for}
@@ -28,7 +28,7 @@ counts-alike : (names : List (List ℕ)) → token_counts_differ names ≡ false
 unfolding token_counts_differ
 counts-alike names none i h =
     eqb-true _ _
-    (not_false _
+    (not-false _
     (any_none (λ name. not (eqb (length (split_of name)) (token_count names))) names none i [] h))
 
 -- Name i of those that are lent, from `from` to `to`.

@@ -11,7 +11,7 @@ use lib.Seq.{drop-cons}
 use lib.Dec.{ltb, leb, eqb}
 use borrow.Author.Tests.{leb-true, ltb-false, eq-eqb, ne_eqb, le-ltb, lt-ltb}
 use Rattle.base.specs.Lists.{any}
-use Rattle.base.proofs.Tests.{or-neither, and_both, not_false, any_none}
+use Rattle.base.proofs.Tests.{or-neither, and_both, not-false, any_none}
 use Rattle.tokens.specs.Split.{is_digit}
 use Rattle.tokens.specs.Columns.{max_number}
 use Rattle.tokens.specs.WrittenNames.{not_number, value_of, value_from, max_digits}
@@ -43,7 +43,7 @@ value-below front n (digit ∷ digits) none below =
     let e : n + 1 + length digits ≡ n + suc (length digits) = omega arith in
     subst (λ (m : ℕ). value_from (front * 10 + (digit - 48)) digits < 10 ^ m) e
     (value-below (front * 10 + (digit - 48)) (n + 1) digits both.1
-    (digit-more front digit n (digit_range digit (not_false _ both.0)).1 below))
+    (digit-more front digit n (digit_range digit (not-false _ both.0)).1 below))
 
 -- What a number is made of.
 pub record NumberToken (token : List ℕ) : Type 0 where
@@ -78,7 +78,7 @@ pub digit_at : (token : List ℕ) → not_number token ≡ false → (i : ℕ) �
     → (48 ≤ get_or token i 0) × (get_or token i 0 ≤ 57)
 digit_at token e i h =
     digit_range (get_or token i 0)
-    (not_false _ (any_none (λ byte. not (is_digit byte)) token (number-token token e).digits i 0 h))
+    (not-false _ (any_none (λ byte. not (is_digit byte)) token (number-token token e).digits i 0 h))
 
 -- One more digit is read.
 pub value-turn : (token : List ℕ) (i value : ℕ) → i < length token

@@ -40,7 +40,7 @@ and_then-checked {R} {A} {B} terms (one ∷ faults) answer f =
     (checked (λ number. refused (terms number)) faults answer)) f
     ≡ cond {A = Answer R B} t (refused (terms one.number))
     (checked (λ number. refused (terms number)) faults (and_then answer f))
-    = λ t. elim t [ true ↦ refl | false ↦ and_then-checked terms faults answer f ] in
+    = elim [ true ↦ refl | false ↦ and_then-checked terms faults answer f ] in
     go one.fits
 
 -- The continuations agree on what was found.

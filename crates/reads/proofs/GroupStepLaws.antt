@@ -94,7 +94,7 @@ refused-through {A} read number place group (f ∷ faults) rest e =
     ≡ groups.Refused number
     → cond {A = Walk A} t (refused_at read f.number) (checked (refused_at read) faults rest)
     ≡ refused_at read number
-    = λ t. elim t [
+    = elim [
       | true ↦ λ h. let is : f.number ≡ number = cc in ap (refused_at read) is
       | false ↦ λ h. refused-through read number place group faults rest h
     ] in
@@ -114,7 +114,7 @@ taken-through {A} read place place' group group' (f ∷ faults) rest e =
     ≡ groups.Found place' group'
     → (cond {A = Walk A} t (refused_at read f.number) (checked (refused_at read) faults rest)
     ≡ rest) × ((place ≡ place') × (group ≡ group'))
-    = λ t. elim t [
+    = elim [
       | true ↦ λ h. let z : ◌≡◌ {A = ℕ} 0 1 = cc in absurd (omega arith)
       | false ↦ λ h. taken-through read place place' group group' faults rest h
     ] in
@@ -132,7 +132,7 @@ fits-through place place' group group' (f ∷ faults) e =
     (checked groups.Refused faults (groups.Found place group))
     ≡ groups.Found place' group'
     → t || any (λ g. g.fits) faults ≡ false
-    = λ t. elim t [
+    = elim [
       | true ↦ λ h. let z : ◌≡◌ {A = ℕ} 0 1 = cc in absurd (omega arith)
       | false ↦ λ h. fits-through place place' group group' faults h
     ] in

@@ -39,7 +39,7 @@ checked-through {A} {B} f refuse keeps (g ∷ faults) rest =
     let more : Scan A = checked refused faults rest in
     let go : (t : Bool) → f (cond {A = Scan A} t (refused g.number) more)
     ≡ cond t (refuse g.number) (checked refuse faults (f rest))
-    = λ t. elim t [
+    = elim [
       | true ↦ keeps g.number
       | false ↦ checked-through f refuse keeps faults rest
     ] in
@@ -95,16 +95,16 @@ unfolding checked field_faults raw_bit_stray is_aligned clips_invalid span_outsi
     record_of head_length clip_bytes field_width
 judging = tt
 
-not_not : (t : Bool) → t ≡ not (not t)
-not_not true = refl
-not_not false = refl
+not-not : (t : Bool) → t ≡ not (not t)
+not-not true = refl
+not-not false = refl
 
 -- 19, by the answer that the padding is 0.
 pub padding-nonzero : (base per : ℕ) (list : List ℕ) (at n : ℕ) {answer t : Bool}
     → let fits : Bool = any (λ symbol. not (eqb symbol 0))
     (symbols_at base per list at n (packed_length per n * per - n)) in
     answer ≡ not fits → not answer ≡ t → fits ≡ t
-padding-nonzero base per list at n e f = not_not _ ∙ ap not (sym e) ∙ f
+padding-nonzero base per list at n e f = not-not _ ∙ ap not (sym e) ∙ f
 
 -- 17, over the place of the entries and the aligned letters.
 pub misfit : (list : List ℕ) (count : ℕ) {entries place aligned letters : ℕ} → entries ≡ place
@@ -115,7 +115,7 @@ pub misfit : (list : List ℕ) (count : ℕ) {entries place aligned letters : �
     ≡ not (entries_fit list place count letters)
 unfolding entries_fit
 misfit list count {entries} {place} {aligned} {letters} e₁ e₂ =
-    not_not _ ∙ (λ i. not (entries_fit list (e₁ i) count (e₂ i)))
+    not-not _ ∙ (λ i. not (entries_fit list (e₁ i) count (e₂ i)))
 
 -- The letters of two or four bits take so many bytes.
 pub length_letters : (base per : ℕ) → 0 < base → 0 < per → (list : List ℕ) (at n : ℕ)

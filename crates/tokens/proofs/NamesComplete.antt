@@ -8,7 +8,7 @@ use lib.ListN.{length, get_or}
 use lib.Dec.{eqb}
 use borrow.Author.Tests.{eq-eqb}
 use Rattle.base.specs.Lists.{build, total, All}
-use Rattle.base.proofs.ListLaws.{all_get_d, build_cong, build_get_or}
+use Rattle.base.proofs.ListLaws.{all_get_or, build_cong, build_get_or}
 use Rattle.base.proofs.Tests.{neither_or, true_not}
 use Rattle.tokens.specs.Split.{NameFits}
 use Rattle.tokens.specs.Columns.{Column, ColumnFits}
@@ -67,7 +67,7 @@ module _ (count : ℕ) (section : List ℕ) (names : List (List ℕ)) (many : le
             let low : read < length names = omega arith in
             ap row_invalid (read_rows (suc count) (length stored.columns) section stored.columns stored_section read)
             ∙ split-row (get_or names read []) (row_of stored.columns read) (stored.split read low)
-            (all_get_d NameFits names [] stored.names_fit read low);
+            (all_get_or NameFits names [] stored.names_fit read low);
       }
 
   -- Nothing is wrong.

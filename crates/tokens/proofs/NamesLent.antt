@@ -12,7 +12,7 @@ use Rattle.base.proofs.ListLaws.{all_left, all_right}
 use Rattle.base.proofs.StepsLaws.{length-places}
 use Rattle.base.proofs.AllLaws.{all_too, all_map, all_flatten, none-all, all_none, all_any}
 use Rattle.base.proofs.CutLaws.{parts_of_flatten, cut_by, lists-ends, CutAt, ends-lists}
-use Rattle.base.proofs.Tests.{or-neither, neither_or, not_false, true_not}
+use Rattle.base.proofs.Tests.{or-neither, neither_or, not-false, true_not}
 use Rattle.tokens.specs.Split.{is_printable, name_length_invalid, NameFits}
 use Rattle.tokens.specs.WrittenNames.{names_lent, name_ends_invalid}
 use Rattle.tokens.specs.WrittenNames.{token_counts_differ, names_refused}
@@ -106,5 +106,5 @@ lent-names reads bytes ends e =
     let count = or-neither (not (eqb (length ends) reads)) _ e in
     let right = or-neither (name_ends_invalid bytes ends) _ count.1 in
     let printable = or-neither (any (λ byte. not (is_printable byte)) bytes) _ right.1 in
-    subst (λ (n : ℕ). LentNames n bytes ends (names_lent bytes ends)) (eqb-true _ _ (not_false _ count.0))
+    subst (λ (n : ℕ). LentNames n bytes ends (names_lent bytes ends)) (eqb-true _ _ (not-false _ count.0))
     (cut-lent bytes ends right.0 printable.0 printable.1)

@@ -7,8 +7,8 @@ use mathlib.Core.List.{List, [], flatten}
 use lib.ListN.{length, get_or}
 use borrow.Author.Tests.{eqb-true}
 use Rattle.base.specs.Lists.{build, total, All, AllBytes}
-use Rattle.base.proofs.ListLaws.{no_length_lem, length-build, get_or-build, all_build, all_get_d}
-use Rattle.base.proofs.Tests.{or-neither, not_false}
+use Rattle.base.proofs.ListLaws.{no_length_lem, length-build, get_or-build, all_build, all_get_or}
+use Rattle.base.proofs.Tests.{or-neither, not-false}
 use Rattle.base.proofs.SumLaws.{total-take-le}
 use Rattle.tokens.specs.Split.{Split, NameFits}
 use Rattle.tokens.specs.Columns.{Column, column_bytes, ColumnFits}
@@ -37,7 +37,7 @@ each_read count section n bytes table valid k h =
     let cursor : Cursor = cursor_at section n k in
     let one : tokens_invalid (suc count) section true cursor ≡ false =
     subst (λ (c : Cursor). tokens_invalid (suc count) section true c ≡ false) (get_or-build n (cursor_at section n) k cursor h)
-    (all_get_d (λ c. tokens_invalid (suc count) section true c ≡ false) (build n (cursor_at section n)) cursor valid k
+    (all_get_or (λ c. tokens_invalid (suc count) section true c ≡ false) (build n (cursor_at section n)) cursor valid k
     (omega (arith, length-build n (cursor_at section n)))) in
     subst (ColumnRead (suc count) section cursor)
     (sym (get_or-build n (λ j. column_at count section (cursor_at section n j)) k no_column h))
@@ -111,5 +111,5 @@ pub names_sound : (reads : ℕ) (section : List ℕ) → AllBytes section → na
     → NamesStored reads section (names_read reads section)
 unfolding names_invalid names_read names_from
 names_sound zero section bytes e =
-    (no_length_lem section (omega (arith, eqb-true (length section) 0 (not_false _ e))), refl)
+    (no_length_lem section (omega (arith, eqb-true (length section) 0 (not-false _ e))), refl)
 names_sound (suc count) section bytes e = some_stored count section bytes e

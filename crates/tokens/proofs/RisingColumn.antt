@@ -34,7 +34,7 @@ unfolding signed is_negative non_negative
 start-signed x e =
     let go : (t : Bool) → is_negative (cond t (pos x) (negsuc (2 ^ 64 - 1 - x))) ≡ false
     → non_negative (cond t (pos x) (negsuc (2 ^ 64 - 1 - x))) ≡ x
-    = λ t. elim t [ true ↦ λ h. refl | false ↦ λ h. let z : ◌≡◌ {A = ℕ} 0 1 = cc in absurd (omega arith) ] in
+    = elim [ true ↦ λ h. refl | false ↦ λ h. let z : ◌≡◌ {A = ℕ} 0 1 = cc in absurd (omega arith) ] in
     go (ltb x (2 ^ (64 - 1))) e
 
 -- A number below half of 2 ^ 64 is not negative.

@@ -77,8 +77,7 @@ rows_right (suc reads) section first cursors e =
     let rest : RowsRight reads section false later = rows_right reads section false later more.1 in
     record {
       tokens = tokens-right reads section first cursors parts.0 rest.tokens;
-      rows = λ read.
-          elim read [
+      rows = elim [
             | zero ↦ λ h. ap row_invalid (row_from-first reads section first cursors) ∙ more.0
             | suc j ↦ λ h.
                 ap row_invalid (sym (row_from-later reads section first cursors j)) ∙ rest.rows j (le_of_suc-le-suc h)

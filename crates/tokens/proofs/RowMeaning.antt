@@ -9,8 +9,8 @@ use lib.ListN.{length, get_or, length-append, get_or-append}
 use lib.Dec.{eqb, ltb, leb}
 use borrow.Author.Tests.{eqb-false, ne_eqb, ltb-false, le-ltb, leb-true}
 use Rattle.base.specs.Lists.{All}
-use Rattle.base.proofs.ListLaws.{all_get_d}
-use Rattle.base.proofs.Tests.{or-neither, neither_or, not_false, true_not, and_both}
+use Rattle.base.proofs.ListLaws.{all_get_or}
+use Rattle.base.proofs.Tests.{or-neither, neither_or, not-false, true_not, and_both}
 use Rattle.base.proofs.AllLaws.{all_too, none-all, all_none, any-all, all_any}
 use Rattle.tokens.specs.Split.{is_digit, is_printable, max_name, name_length_invalid, Token, Alternate, Split, NameFits}
 use Rattle.tokens.specs.NamesAt.{nature_wrong, split_wrong, name_invalid, row_invalid}
@@ -21,7 +21,7 @@ use Rattle.tokens.proofs.StringColumn.{NoZero}
 
 -- A byte is a digit or not, as it should be.
 like-byte : (digits t : Bool) → cond digits (not t) t ≡ false → t ≡ digits
-like-byte true t e = not_false t e
+like-byte true t e = not-false t e
 like-byte false t e = e
 
 byte_like : (digits t : Bool) → t ≡ digits → cond digits (not t) t ≡ false
@@ -127,7 +127,7 @@ unfolding is_printable
 printable-nonzero token h =
     record {
       each = λ k l e.
-          let byte = and_both (leb 32 (get_or token k 0)) _ (all_get_d (λ byte. is_printable byte ≡ true) token 0 h k l) in
+          let byte = and_both (leb 32 (get_or token k 0)) _ (all_get_or (λ byte. is_printable byte ≡ true) token 0 h k l) in
           omega (arith, leb-true 32 (get_or token k 0) byte.0);
     }
 

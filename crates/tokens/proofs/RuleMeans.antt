@@ -128,7 +128,7 @@ width steps wide =
       holds = holds.1;
       narrowest = λ other is below.
           let go : (other ≡ 1) ⊎ ((other ≡ 2) ⊎ (other ≡ 4)) → width_for steps ≤ other
-          = λ c. elim c [
+          = elim [
             | inl e ↦
                 let small : Below 256 steps = subst (λ (n : ℕ). Below (256 ^ n) steps) e below in
                 rw (none_above 65_535 256 steps (omega arith) small, none_above 255 256 steps (omega arith) small) (omega (arith, e))

@@ -11,7 +11,7 @@ use Rattle.base.specs.Place.{At}
 use Rattle.base.proofs.ListLaws.{build_cong, build_get_or, all_build}
 use Rattle.base.proofs.GroupLaws.{map-build}
 use Rattle.base.proofs.AtLaws.{at-to, at_self, at_same}
-use Rattle.base.proofs.AllLaws.{get_d_map, get_or-all}
+use Rattle.base.proofs.AllLaws.{get_or-map_any, get_or-all}
 use Rattle.base.proofs.NumberLaws.{le_bytes-le}
 use Rattle.base.proofs.FlatMapLaws.{at-flat_map}
 use Rattle.tokens.specs.Columns.{Column, column_type, column_tokens, column_bytes, ColumnFits}
@@ -47,7 +47,7 @@ module _ (reads n : ℕ) (section : List ℕ) (columns : List Column) (all : Sec
         fits = omega (arith, length-map columns column_type, all.many, all.fills);
         same = λ k h.
             let low : k < length columns = omega (arith, length-map columns column_type) in
-            sym (get_d_map column_type columns k no_column 0 low ∙ (all.each k (omega (arith, all.many))).kind_is);
+            sym (get_or-map_any column_type columns k no_column 0 low ∙ (all.each k (omega (arith, all.many))).kind_is);
       }
 
   read_sizes : AllBytes section → At section (4 + length columns) (flat_map size_bytes columns)

@@ -6,10 +6,10 @@ use mathlib.Core.List.{List}
 use lib.ListN.{length, get_or, take, length-map}
 use Rattle.base.specs.Lists.{total, All}
 use Rattle.base.specs.Place.{At}
-use Rattle.base.proofs.ListLaws.{all_get_d}
+use Rattle.base.proofs.ListLaws.{all_get_or}
 use Rattle.base.proofs.AtLaws.{at-to, at_self}
 use Rattle.base.proofs.NumberLaws.{le-le_bytes}
-use Rattle.base.proofs.AllLaws.{get_d_map}
+use Rattle.base.proofs.AllLaws.{get_or-map_any}
 use Rattle.base.proofs.FlatMapLaws.{part_sizes, flat_map-at}
 use Rattle.tokens.specs.Columns.{Column, column_type, column_tokens, column_bytes, ColumnFits}
 use Rattle.tokens.specs.Names.{names_bytes}
@@ -36,7 +36,7 @@ module _ (section : List ℕ) (columns : List Column) (bytes : names_bytes colum
   stored_kind k h =
       sym
       (stored_table.kinds.same k (omega (arith, length-map columns column_type))
-      ∙ get_d_map column_type columns k no_column 0 h)
+      ∙ get_or-map_any column_type columns k no_column 0 h)
 
   -- The sizes that are read are the columns' own.
   stored_sizes : length section < 2 ^ 64 → column_sizes section (length columns) ≡ sizes_of columns
@@ -63,7 +63,7 @@ module _ (section : List ℕ) (columns : List Column) (bytes : names_bytes colum
         fills = stored_fills;
         each = λ k h.
             column-read count section (cursor_at section (length columns) k) (get_or columns k no_column) (stored_kind k h)
-            (all_get_d (ColumnFits (suc count)) columns no_column fits k h)
+            (all_get_or (ColumnFits (suc count)) columns no_column fits k h)
             (at-to (table_end (length columns) + total (take k (sizes_of columns))) _
             (ap (λ (list : List ℕ). table_end (length columns) + total (take k list)) (sym sizes))
             (stored_column k h))

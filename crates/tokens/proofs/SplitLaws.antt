@@ -6,7 +6,7 @@ use native.Mathlib.Omega.{arith}
 use mathlib.Core.Bool.{Bool, true, false, cond, not}
 use mathlib.Core.List.{List, [], ◌∷◌, ◌++◌, flatten}
 use lib.ListN.{get_or}
-use Rattle.base.proofs.ListLaws.{by_test, all_get_d}
+use Rattle.base.proofs.ListLaws.{by_test, all_get_or}
 use Rattle.base.proofs.AnswerLaws.{cond_yes, cond_no}
 use Rattle.tokens.specs.Split.{is_digit, Token, Alternate, Split}
 use Rattle.tokens.specs.WrittenNames.{alike, with_byte, split_of}
@@ -38,7 +38,7 @@ unlike_cond false t e = ap not e
 
 -- A token's first byte is of its nature.
 pub token-first : (digits : Bool) (token : List ℕ) → Token digits token → is_digit (get_or token 0 0) ≡ digits
-token-first digits token is = all_get_d (λ byte. is_digit byte ≡ digits) token 0 is.alike 0 is.some
+token-first digits token is = all_get_or (λ byte. is_digit byte ≡ digits) token 0 is.alike 0 is.some
 
 -- ---- split_of is a split
 

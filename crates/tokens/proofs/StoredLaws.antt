@@ -8,9 +8,9 @@ use mathlib.Core.List.{List, [], ◌∷◌, flatten}
 use lib.ListN.{length, get_or, length-map}
 use Rattle.base.specs.Lists.{places_from, All}
 use Rattle.base.specs.Decimal.{decimal}
-use Rattle.base.proofs.ListLaws.{all_get_d}
+use Rattle.base.proofs.ListLaws.{all_get_or}
 use Rattle.base.proofs.StepsLaws.{length-places}
-use Rattle.base.proofs.AllLaws.{flatten-all, get_d_map, get_or-all}
+use Rattle.base.proofs.AllLaws.{flatten-all, get_or-map_any, get_or-all}
 use Rattle.tokens.specs.Split.{is_printable, NameFits}
 use Rattle.tokens.specs.Columns.{Column, strings, rising, numbers_from, column_tokens, ColumnFits}
 use Rattle.tokens.specs.Names.{row_of, StoredNames}
@@ -38,7 +38,7 @@ module _ (section : List ℕ) (names : List (List ℕ)) (stored : StoredNames se
   -- A row makes up a name that fits.
   pub name_at : (read : ℕ) → read < length names → NameFits (flatten (row_of columns read))
   name_at read h =
-      subst NameFits (sym (stored.split read h).joined) (all_get_d NameFits names [] stored.names_fit read h)
+      subst NameFits (sym (stored.split read h).joined) (all_get_or NameFits names [] stored.names_fit read h)
 
   -- There are as many tokens as columns, one or more and no more than bytes.
   pub column-count : 0 < length names → (0 < length columns) × (length columns ≤ 255)
@@ -61,12 +61,12 @@ module _ (section : List ℕ) (names : List (List ℕ)) (stored : StoredNames se
       omega (
         arith,
         length-column_tokens (length names) column
-            (all_get_d (ColumnFits (length names)) columns no_column stored.fits k h),
+            (all_get_or (ColumnFits (length names)) columns no_column stored.fits k h),
       ) in
       printable-nonzero (get_or (column_tokens column) read [])
       (subst (All (λ byte. is_printable byte ≡ true))
-      (get_d_map (λ c. get_or (column_tokens c) read []) columns k no_column [] h)
-      (all_get_d (All (λ byte. is_printable byte ≡ true)) (row_of columns read) []
+      (get_or-map_any (λ c. get_or (column_tokens c) read []) columns k no_column [] h)
+      (all_get_or (All (λ byte. is_printable byte ≡ true)) (row_of columns read) []
       (flatten-all (λ byte. is_printable byte ≡ true) (row_of columns read) (name_at read low).printable)
       k
       (omega (arith, length-map columns (λ c. get_or (column_tokens c) read []))))))

@@ -9,7 +9,7 @@ use lib.Seq.{get_or-drop, length-take-le, get_or-append-add}
 use lib.Dec.{eqb}
 use Rattle.base.specs.Lists.{part, member, index_of, All}
 use Rattle.base.specs.Place.{At}
-use Rattle.base.proofs.Tests.{or-neither, neither_or, not_false, true_not}
+use Rattle.base.proofs.Tests.{or-neither, neither_or, not-false, true_not}
 use Rattle.base.proofs.AtLaws.{at_left, at_right, at_both, at-nil, at-cons, at-to, at_cut, at_part}
 use Rattle.base.proofs.IndexLaws.{member-at, index_of-at, index_of-inside}
 use Rattle.tokens.specs.ColumnsAt.{Cursor, cursor_after, token_invalid, string_length}
@@ -129,7 +129,7 @@ strings-stand (suc reads) section first cursor is h e =
     let token : List ℕ = part section cursor.place (string_length section cursor.place) in
     let parts = or-neither (token_invalid section first cursor) _ e in
     let zero_there : member 0 (drop cursor.place section) ≡ true =
-    not_false (member 0 (drop cursor.place section)) (sym (invalid_string section first cursor is) ∙ parts.0) in
+    not-false (member 0 (drop cursor.place section)) (sym (invalid_string section first cursor is) ∙ parts.0) in
     let front : At section cursor.place (ended token) = string-stands section cursor.place h zero_there in
     let len : length (ended token) ≡ length token + 1 = length-append token (0 ∷ []) in
     let there : after.place ≡ cursor.place + length (ended token) =

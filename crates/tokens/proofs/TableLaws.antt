@@ -11,7 +11,7 @@ use Rattle.base.specs.Place.{At}
 use Rattle.base.proofs.ListLaws.{length-build, get_or-build}
 use Rattle.base.proofs.AtLaws.{at_left, at_right, at_both, at-to}
 use Rattle.base.proofs.NumberLaws.{length-le_bytes}
-use Rattle.base.proofs.AllLaws.{get_d_map}
+use Rattle.base.proofs.AllLaws.{get_or-map_any}
 use Rattle.base.proofs.FlatMapLaws.{part_sizes, length-flat_map, length-flat_map_even, total_even}
 use Rattle.tokens.specs.Columns.{Column, strings, column_type, column_bytes}
 use Rattle.tokens.specs.Names.{names_bytes}
@@ -108,7 +108,7 @@ get_or-column_sizes section n k h = get_or-build n _ k 0 h
 
 pub get_or-sizes_of : (columns : List Column) (k : ℕ) → k < length columns
     → get_or (sizes_of columns) k 0 ≡ length (column_bytes (get_or columns k no_column))
-get_or-sizes_of columns k h = get_d_map (λ column. length (column_bytes column)) columns k no_column 0 h
+get_or-sizes_of columns k h = get_or-map_any (λ column. length (column_bytes column)) columns k no_column 0 h
 
 -- The sizes that are read are these, where each is.
 pub sizes-each : (section : List ℕ) (columns : List Column) (n : ℕ) → length columns ≡ n

@@ -10,8 +10,8 @@ use lib.Dec.{eqb, ltb}
 use borrow.Author.Tests.{eqb-true, eq-eqb, eqb-false, ne_eqb, ltb-false, le-ltb}
 use Rattle.base.specs.Lists.{build, any, part, total, ends_before}
 use Rattle.base.proofs.ListLaws.{length-build, get_or-build, all_build}
-use Rattle.base.proofs.Tests.{or-neither, neither_or, any_none, not_false, true_not}
-use Rattle.base.proofs.AllLaws.{get_d_map, all_any, get_or-all}
+use Rattle.base.proofs.Tests.{or-neither, neither_or, any_none, not-false, true_not}
+use Rattle.base.proofs.AllLaws.{get_or-map_any, all_any, get_or-all}
 use Rattle.base.proofs.SumLaws.{total-take-suc}
 use Rattle.tokens.specs.Split.{max_name}
 use Rattle.tokens.specs.ColumnsAt.{table_end, column_sizes, Cursor, first_cursors, column_end, kind_invalid, table_invalid}
@@ -54,7 +54,7 @@ table-right section n e =
       kinds = λ k h.
           ap kind_invalid (sym (kind_at section n k h))
           ∙ any_none kind_invalid (part section 4 n) p5.0 k 0 (omega (arith, length_kinds section n room));
-      fills = eqb-true (table_end n + total (column_sizes section n)) (length section) (not_false _ p5.1);
+      fills = eqb-true (table_end n + total (column_sizes section n)) (length section) (not-false _ p5.1);
     }
 
 -- And back.
@@ -92,9 +92,9 @@ module _ (reads : ℕ) (section : List ℕ) (n : ℕ) where
       let all : length (map (cursor_from reads section true) first) ≡ length first =
       length-map first (cursor_from reads section true) in
       ap (λ (list : List Cursor). get_or (map (λ c. c.place) list) k 0) (cursors_after-each reads section true first)
-      ∙ get_d_map (λ c. c.place) (map (cursor_from reads section true) first) k (cursor_at section n 0) 0 (omega arith)
+      ∙ get_or-map_any (λ c. c.place) (map (cursor_from reads section true) first) k (cursor_at section n 0) 0 (omega arith)
       ∙ ap (λ (c : Cursor). c.place)
-      (get_d_map (cursor_from reads section true) first k (cursor_at section n 0) (cursor_at section n 0) (omega arith)
+      (get_or-map_any (cursor_from reads section true) first k (cursor_at section n 0) (cursor_at section n 0) (omega arith)
       ∙ ap (cursor_from reads section true) (get_or-build n (cursor_at section n) k (cursor_at section n 0) h))
 
   -- What the tests of the ends say.
@@ -107,7 +107,7 @@ module _ (reads : ℕ) (section : List ℕ) (n : ℕ) where
       (column_end section n j)) in
       sym (place_after k h)
       ∙ eqb-true _ (column_end section n k)
-      (not_false _
+      (not-false _
       (sym (get_or-build n ended k false h)
       ∙ any_none (λ wrong. wrong) (build n ended) e k false (omega (arith, length-build n ended))))
 

@@ -10,7 +10,7 @@ use lib.Dec.{eqb, leb}
 use borrow.Author.Tests.{eqb-true, leb-true}
 use Rattle.base.specs.Lists.{any, member, All, AllBytes}
 use Rattle.base.specs.Numbers.{le_bytes}
-use Rattle.base.proofs.ListLaws.{by_test, length-build, all_get_d, all_build, below-nil, below-cons}
+use Rattle.base.proofs.ListLaws.{by_test, length-build, all_get_or, all_build, below-nil, below-cons}
 use Rattle.base.proofs.ListLaws.{below-append}
 use Rattle.base.proofs.NumberLaws.{length-le_bytes, le_bytes-bytes}
 use Rattle.base.proofs.AllLaws.{all_too, all-each, all_map, flatten-all, all-below, below-flat_map}
@@ -48,7 +48,7 @@ token-small name fits k h =
     record {
       short = omega (arith, length_flatten-one (split_of name) k, ap length whole, fits.short);
       bytes = all-below 256 _
-          (all_get_d (All (λ byte. byte < 256)) (split_of name) [] (flatten-all (λ byte. byte < 256) (split_of name) bytes) k h);
+          (all_get_or (All (λ byte. byte < 256)) (split_of name) [] (flatten-all (λ byte. byte < 256) (split_of name) bytes) k h);
     }
 
 -- Tokens of a split are not empty.
@@ -195,7 +195,7 @@ columns-small names fit e some =
 columns-few : (names : List (List ℕ)) → All NameFits names → 0 < length names → length (columns_for names) ≤ 255
 unfolding columns_for token_count
 columns-few names fit some =
-    let fits : NameFits (get_or names 0 []) = all_get_d NameFits names [] fit 0 some in
+    let fits : NameFits (get_or names 0 []) = all_get_or NameFits names [] fit 0 some in
     omega (arith, length-build (length (split_of (get_or names 0 []))) (λ k. column_for (tokens_at names k)), few-tokens (get_or names 0 []), fits.short)
 
 -- What is written is bytes.

@@ -9,9 +9,9 @@ use lib.ListN.{length, get_or, length-map}
 use lib.Dec.{eqb}
 use borrow.Author.Tests.{eqb-true}
 use Rattle.base.specs.Lists.{build, All}
-use Rattle.base.proofs.ListLaws.{build_cong, build_get_or, all_get_d, all_build}
+use Rattle.base.proofs.ListLaws.{build_cong, build_get_or, all_get_or, all_build}
 use Rattle.base.proofs.GroupLaws.{map-build}
-use Rattle.base.proofs.AllLaws.{all_too, all_map, none-all, get_d_map}
+use Rattle.base.proofs.AllLaws.{all_too, all_map, none-all, get_or-map_any}
 use Rattle.tokens.specs.Split.{Alternate, Split, NameFits}
 use Rattle.tokens.specs.Columns.{column_tokens, ColumnFits}
 use Rattle.tokens.specs.Names.{names_bytes, row_of, StoredNames, NamesStored}
@@ -74,12 +74,12 @@ unfolding row_of columns_for tokens_at
 row-split names e read h =
     let name : List ℕ = get_or names read [] in
     let count : length (split_of name) ≡ token_count names =
-    all_get_d (λ name. length (split_of name) ≡ token_count names) names [] (one_count names e) read h in
+    all_get_or (λ name. length (split_of name) ≡ token_count names) names [] (one_count names e) read h in
     map-build (λ column. get_or (column_tokens column) read []) (token_count names) (λ k. column_for (tokens_at names k))
     ∙ build_cong (token_count names) _ (λ k. get_or (split_of name) k [])
     (λ k l.
     ap (λ (tokens : List (List ℕ)). get_or tokens read []) (column_for-tokens_at names k (omega arith) e l)
-    ∙ get_d_map (λ name. get_or (split_of name) k []) names read [] [] h)
+    ∙ get_or-map_any (λ name. get_or (split_of name) k []) names read [] [] h)
     ∙ ap (λ (n : ℕ). build n (λ k. get_or (split_of name) k [])) (sym count)
     ∙ build_get_or (split_of name) []
 

@@ -2,7 +2,7 @@
 use Prim.Native.Nat.{◌+◌, ◌-◌}
 use native.Mathlib.Omega.{arith}
 use borrow.Author.Rules.{rules}
-use borrow.Author.Tests.{not_true, not_false}
+use borrow.Author.Tests.{not-true, not-false}
 use Rattle.format.specs.RuleRecord.{Candidate}
 use Rattle.reference.proofs.Fits.{stretch-fits}
 use Rattle.letter_packing.specs.Read.{codes_in}
@@ -41,7 +41,7 @@ returns-2 c =
     (candidate_of a.position a.strand a.left a.right) a.list.now
     counted.count-n.result start.requires.1 counted.count-n.ensures start.requires.4
     c.before.before.if1.false
-    _ c.before.place-fits.ensures (not_true _ c.if2.true)
+    _ c.before.place-fits.ensures (not-true _ c.if2.true)
 
 put-place-requires : tie.Need-put-place-requires
 put-place-requires c κs =
@@ -51,7 +51,7 @@ put-place-requires c κs =
     let candidate : Candidate = candidate_of a.position a.strand a.left a.right in
     let inside =
     fits_inside a.bases (a.to - a.from) candidate p2.place-fits.result
-    p2.place-fits.ensures (not_false _ c.before.if2.false) in (
+    p2.place-fits.ensures (not-false _ c.before.if2.false) in (
       start.requires.1,
       inside.0,
       stretch-fits a.position (a.to - a.from - (a.left + a.right))
@@ -88,7 +88,7 @@ aligned-record-requires c κs =
       (fits_inside a.bases (a.to - a.from)
           (candidate_of a.position a.strand a.left a.right)
           tested.place-fits.result tested.place-fits.ensures
-          (not_false _ c.before.before.before.before.before.if2.false)).0,
+          (not-false _ c.before.before.before.before.before.if2.false)).0,
       omega (arith, start.requires.1.sized),
     )
 
@@ -108,7 +108,7 @@ returns-4 c =
     start.requires.1 counted.count-n.ensures
     (omega (arith, start.requires.4, put.put-place.auto.1.1.1.1.1.1.1.1.1.1.0))
     tested.before.if1.false
-    _ tested.place-fits.ensures (not_false _ put.before.before.if2.false)
+    _ tested.place-fits.ensures (not-false _ put.before.before.if2.false)
     start.requires.0
     start.requires.4 put.put-place.ensures left.if3.false c.aligned-record.result
     (c.aligned-record.ensures (codes_in a.letters.now a.from a.to)

@@ -4,7 +4,7 @@ use Prim.Native.Nat.{◌+◌, ◌-◌}
 use native.Mathlib.Omega.{arith}
 use lib.Dec.{leb}
 use borrow.Author.Rules.{rules}
-use borrow.Author.Tests.{not_true, not_false}
+use borrow.Author.Tests.{not-true, not-false}
 use Rattle.choices.specs.Choice.{candidate_of}
 use Rattle.choices.proofs.PlaceLaws.{no_strand, no_letters, stretch_tested}
 use Rattle.choices.proofs.place_fits.Statement.{statement}
@@ -17,7 +17,7 @@ returns : tie.Need-returns
 returns c =
     let a = c.before.before.args in
     no_strand a.bases a.size (candidate_of a.position a.strand a.left a.right)
-    (sym c.before.strand-known.ensures ∙ not_true _ c.if1.true)
+    (sym c.before.strand-known.ensures ∙ not-true _ c.if1.true)
 
 size8-requires : tie.Need-size8-requires
 size8-requires c κs = search rules
@@ -33,7 +33,7 @@ returns-2 c =
     let known = c.before.before.before.before in
     let a = known.before.args in
     no_letters a.bases a.size (candidate_of a.position a.strand a.left a.right)
-    (sym known.strand-known.ensures ∙ not_false _ c.before.before.before.if1.false)
+    (sym known.strand-known.ensures ∙ not-false _ c.before.before.before.if1.false)
     (omega (
       arith,
       c.if2.true,
@@ -65,7 +65,7 @@ returns-3 c =
     ap (leb end) c.size64.ensures.0
     ∙ stretch_tested a.bases a.size
     (candidate_of a.position a.strand a.left a.right)
-    (sym known.strand-known.ensures ∙ not_false _ p5.if1.false)
+    (sym known.strand-known.ensures ∙ not-false _ p5.if1.false)
     (omega (arith, c.before.before.if2.false, left.ensures.0, right.ensures.0)) end
     (omega (arith, c.before.size32.ensures.0, left.ensures.0, right.ensures.0))
 

@@ -74,7 +74,7 @@ reads_before =
     (λ x xs ih.
     let all : List ℕ = x ∷ xs in
     subst (λ (groups : List (List ℕ)). (g : ℕ) → g < length groups → total (map length (take g groups)) ≡ 8 * g) (sym (in_groups-cons x xs))
-    (λ g. elim g [
+    (elim [
       | zero ↦ λ h. refl
       | suc k ↦ λ h.
           let less : k < length (in_groups (drop 8 all)) = le_of_suc-le-suc h in

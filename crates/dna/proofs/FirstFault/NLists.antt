@@ -140,7 +140,7 @@ n_list-number context list at number bytes h e = (
   refuses-with TwelveOrTwenty e (n_list-numbers context list at),
   (
     λ is. n_list-cut context list at bytes (e ∙ ap refused is),
-    λ c. elim c [
+    elim [
       | inl none ↦ refused-same (sym e ∙ none-n_list context list at none)
       | inr cut ↦ refused-same (sym e ∙ cut-n_list context list at h cut)
     ],

@@ -38,7 +38,7 @@ fields-judged context list at =
     (checked refused (fault 12 (ends_before list (at + 1)) ∷ fault 14 (record_flag_invalid (get_or list at 0)) ∷ [])
     (judged_at context list at (flagged_at context list at (get_or list at 0))))
     ≡ checked refused (fault 12 (not t && ends_before list (at + 1)) ∷ fault 14 (not t && record_flag_invalid (get_or list at 0)) ∷ []) rest
-    = λ t. elim t [ true ↦ refl | false ↦ refl ] in
+    = elim [ true ↦ refl | false ↦ refl ] in
     go context.perfect_bit
 
 -- Their numbers are above 0.

@@ -66,7 +66,7 @@ pub record-refuses : (context : ReadContext) (list : List ℕ) (at number : ℕ)
     → record_at context list at ≡ refused number
 record-refuses context list at number bytes first none =
     let go : (answer : Scan StoredRecord) → record_at context list at ≡ answer → record_at context list at ≡ refused number
-    = λ answer. elim answer [
+    = elim [
       | found stored next ↦ λ e.
           let f : RecordFoundAt context list at stored next = record-found context list at bytes e in
           absurd (none stored f.fits f.none f.stands)

@@ -194,7 +194,7 @@ unfolding checked
 first-own own [] h some = absurd (omega arith)
 first-own own (f ∷ fs) h some =
     let go : (t : Bool) → 0 < cond t f.number (first_number fs) → own (cond t f.number (first_number fs)) ≡ true
-    = λ t. elim t [ true ↦ λ s. h.0 | false ↦ λ s. first-own own fs h.1 s ] in
+    = elim [ true ↦ λ s. h.0 | false ↦ λ s. first-own own fs h.1 s ] in
     go f.fits some
 
 encode-number : (bases : ℕ) (reference : List ℕ) (input : EncodeInput) (out : List ℕ) → 0 < encode_number bases reference input out
@@ -216,7 +216,7 @@ encode-refuses bases reference input out some =
     let full : List ℕ = pasted out 0 (block_of bases reference input) in
     let go : (t : Bool) → (t ≡ false → 0 < number) → 0 < (cond t done stop).number
     → Refusal writers_own 0 (cond t done stop) × ((cond t done stop).block ≡ 0) × (cond t full out ≡ out)
-    = λ t. elim t [
+    = elim [
       | true ↦ λ n s. absurd (omega arith)
       | false ↦ λ n s. (
         record {

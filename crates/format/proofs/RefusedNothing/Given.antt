@@ -79,7 +79,7 @@ nine bases reference input bytes fits none =
       λ invalid.
           let go : (scan : Scan (List ℕ)) → lengths_answer input ≡ scan
           → and_then (refused_as (λ n. of_read 0 9) scan) (λ lengths end. after_lengths bases input lengths) ≡ refused (of_read 0 9)
-          = λ scan. elim scan [
+          = elim [
             | found lengths next ↦ λ e. absurd (invalid lengths (lengths-found input lengths next (section-bytes input size_number bytes) e))
             | refused number ↦ λ e. refl
           ] in

@@ -104,7 +104,7 @@ refused-parts bases reference input why e dna unnamed =
 names-refused : (input : List ℕ) → AllBytes input → NamesInvalid input → (number : ℕ) × (names_answer input ≡ refused number)
 names-refused input bytes invalid =
     let go : (scan : Scan (List (List ℕ))) → names_answer input ≡ scan → (number : ℕ) × (names_answer input ≡ refused number)
-    = λ scan. elim scan [
+    = elim [
       | found names next ↦ λ e. absurd (invalid names (names-answered input names next (section-bytes input names_number bytes) e))
       | refused number ↦ λ e. (number, e)
     ] in

@@ -13,7 +13,7 @@ use Rattle.base.specs.Answer.{first_number}
 use Rattle.base.proofs.AnswerLaws.{any-first_number}
 use Rattle.base.proofs.AllLaws.{flatten-all, all_flatten, none-all, all_none, map-all, any-all}
 use Rattle.base.proofs.CutLaws.{cut_by, lists-ends, CutAt, ends-lists}
-use Rattle.base.proofs.Tests.{or-neither, neither_or, not_false, true_not}
+use Rattle.base.proofs.Tests.{or-neither, neither_or, not-false, true_not}
 use Rattle.dna.specs.Reference.{alphabet, reference_size_wrong, ReferenceFits}
 use Rattle.dna.specs.Sizes.{length_invalid}
 use Rattle.dna.specs.Counts.{zero_counts}
@@ -55,7 +55,7 @@ encoded-zero bases reference input out e =
     let n : ℕ = encode_number bases reference input out in
     let go : (t : Bool) → eqb n 0 ≡ t
     → (cond t (accepted_block (length (block_of bases reference input)) zero_counts) (refusal n 0 0)).number ≡ 0 → n ≡ 0
-    = λ t. elim t [ true ↦ λ is h. eqb-true n 0 is | false ↦ λ is h. h ] in
+    = elim [ true ↦ λ is h. eqb-true n 0 is | false ↦ λ is h. h ] in
     go (eqb n 0) refl e
 
 -- ---- Accepted reads
@@ -130,7 +130,7 @@ zero-writable bases reference input out e =
     let c₂ = or-neither (not (eqb (length input.strands) (length input.ends))) _ c₁.1 in
     let c₃ = or-neither (not (eqb (length input.lefts) (length input.ends))) _ c₂.1 in
     let same : (list : List ℕ) → not (eqb (length list) (length input.ends)) ≡ false → length list ≡ length reads
-    = λ list h. eqb-true _ _ (not_false _ h) ∙ sym cut.counted in (
+    = λ list h. eqb-true _ _ (not-false _ h) ∙ sym cut.counted in (
       reads,
       names_lent input.names input.name_ends,
       record {

@@ -85,7 +85,7 @@ total-small reads names input lent w =
     let last : get_or (0 ∷ places_from 0 lengths) (length lengths) 0 ≡ 0 + total lengths = last-place 0 lengths in
     let small : (k : ℕ) → get_or (places_from 0 lengths) k 0 < 2 ^ 32
     = λ k. subst (λ (ends : List ℕ). get_or ends k 0 < 2 ^ 32) w.ends_are (below_at input.ends (omega arith) lent.ends k) in
-    let go : (n : ℕ) → get_or (0 ∷ places_from 0 lengths) n 0 < 2 ^ 32 = λ n. elim n [ zero ↦ omega arith | suc k ↦ small k ] in
+    let go : (n : ℕ) → get_or (0 ∷ places_from 0 lengths) n 0 < 2 ^ 32 = elim [ zero ↦ omega arith | suc k ↦ small k ] in
     omega (arith, go (length lengths))
 
 candidates-fit : (input : EncodeInput) → LentFits input → All CandidateFits (candidates_of input)

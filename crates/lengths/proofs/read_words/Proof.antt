@@ -4,7 +4,7 @@ use mathlib.Core.Path.{◌≡◌, sym, ◌∙◌}
 use Prim.Native.Nat.{◌+◌, ◌-◌, ◌%◌, ◌≤◌}
 use native.Mathlib.Omega.{arith}
 use lib.ListN.{length}
-use borrow.Author.Tests.{ltb-false, not_true, not_false}
+use borrow.Author.Tests.{ltb-false, not-true, not-false}
 use Rattle.dna.specs.Varint16At.{words_for}
 use Rattle.lengths.specs.Cursor.{words_from}
 use Rattle.lengths.proofs.WordLaws.{rest_of_words, words_cut, words_large, words_outside}
@@ -30,7 +30,7 @@ start c = (turn c).before.before
 -- The word is there.
 room : (c : tie.Then1 invariant-loop decreases-loop)
     → (turn c).loop.at + 2 ≤ length (start c).args.section.now
-room c = ltb-false _ _ (sym c.before.cut_at.ensures ∙ not_true _ c.if1.true)
+room c = ltb-false _ _ (sym c.before.cut_at.ensures ∙ not-true _ c.if1.true)
 
 loop-holds : tie.Need-loop-init invariant-loop decreases-loop
 unfolding words_from words_for
@@ -130,7 +130,7 @@ returns-4 c =
     sym
     (l.invariant.2
     ∙ words_cut a.section.now l.at l.sum
-    (sym c.before.cut_at.ensures ∙ not_false _ c.if1.false))
+    (sym c.before.cut_at.ensures ∙ not-false _ c.if1.false))
 
 pub read-words-spec : {M : Type 1} → statement M
 read-words-spec =

@@ -6,7 +6,7 @@ use Prim.Native.Nat.{ℕ, ◌≤◌, ◌<◌}
 use native.Mathlib.Omega.{arith}
 use native.Mathlib.Nat.{zero-add}
 use lib.ListN.{length, get_or, drop}
-use borrow.Author.Tests.{not_true, not_false}
+use borrow.Author.Tests.{not-true, not-false}
 use borrow.Author.Rules.{rules}
 use Rattle.base.specs.Lists.{index_of}
 use Rattle.base.specs.Decimal.{decimal}
@@ -78,7 +78,7 @@ returns-3 c =
     let a = c.before.before.before.before.before.before.before.args in
     let s : List ℕ = a.section.now in
     let cursor : Cursor = cursor_of s a.places.now a.values.now a.k in (
-      sym (ap (λ (d : Bool). token_size s a.first d cursor) (not_true a.digits c.if3.true)
+      sym (ap (λ (d : Bool). token_size s a.first d cursor) (not-true a.digits c.if3.true)
           ∙ number-other s a.first cursor c.before.if1.false),
       λ h. absurd (omega arith),
     )
@@ -103,7 +103,7 @@ returns-4 c =
       arith,
       c.before.number_at.ensures,
     ) in (
-      sym (ap (λ (d : Bool). token_size s a.first d cursor) (not_false a.digits c.before.before.before.if3.false) ∙ number-token s a.first cursor c.before.before.before.before.if1.false
+      sym (ap (λ (d : Bool). token_size s a.first d cursor) (not-false a.digits c.before.before.before.if3.false) ∙ number-token s a.first cursor c.before.before.before.before.if1.false
           ∙ ap (λ (t : Bool). cond t 0 (length (decimal (number_at s a.first cursor))))
           (number_refused
           s a.first cursor big)),
@@ -163,7 +163,7 @@ returns-5 c =
     let same : number ≡ number_at s a.first cursor = is ∙ sym found.1 in (
       c.decimal-length.ensures
           ∙ ap (λ (n : ℕ). length (decimal n)) same
-          ∙ sym (ap (λ (d : Bool). token_size s a.first d cursor) (not_false a.digits c.before.before.before.before.before.if3.false) ∙ number-token s a.first cursor c.before.before.before.before.before.before.if1.false
+          ∙ sym (ap (λ (d : Bool). token_size s a.first d cursor) (not-false a.digits c.before.before.before.before.before.if3.false) ∙ number-token s a.first cursor c.before.before.before.before.before.before.if1.false
           ∙ ap (λ (t : Bool). cond t 0 (length (decimal (number_at s a.first cursor)))) found.0),
       λ h. moved_number s a.places.now a.values.now a.first a.k (omega arith) c.before.number-width.result number (omega arith) c.before.before.before.before.before.before.if1.false
           c.before.number-width.ensures.0 same,

@@ -1,6 +1,6 @@
 -- `names_writer::tokeniser::run_end` meets its contract. Assumes nothing.
 use mathlib.Core.Bool.{true, false, not, beq}
-use Rattle.base.proofs.Tests.{not_true, not_false, beq_same}
+use Rattle.base.proofs.Tests.{not-true, not-false, beq_same}
 use Rattle.names_writer.proofs.TokenLaws.{beq-other}
 use mathlib.Core.Path.{◌≡◌, refl, sym, ◌∙◌}
 use Prim.Native.Nat.{◌+◌, ◌-◌, ◌≤◌}
@@ -36,7 +36,7 @@ returns c =
     let h : not (beq c.before.is_digit.result a.digits) ≡ true = c.if1.true in
     sym (run_stops a.digits a.name.now l.i (omega arith)
     (sym c.before.is_digit.ensures ∙ beq-other c.before.is_digit.result a.digits
-    (not_true _ h)))
+    (not-true _ h)))
     ∙ l.invariant.1
 
 add-i : tie.Need-overflow-add-i invariant-loop decreases-loop
@@ -53,7 +53,7 @@ loop-again c =
       omega arith,
       sym (run_passes a.digits a.name.now l.i (omega arith)
           (sym c.before.is_digit.ensures ∙ beq_same c.before.is_digit.result a.digits
-          (not_false _ h)))
+          (not-false _ h)))
           ∙ l.invariant.1,
     )
 

@@ -1,7 +1,7 @@
 -- `records::nlist::read_n_list` meets its contract. Assumes nothing.
 use mathlib.Core.Path.{sym}
 use native.Mathlib.Omega.{arith}
-use borrow.Author.Tests.{not_true, not_false}
+use borrow.Author.Tests.{not-true, not-false}
 use Rattle.records.proofs.NListLaws.{list_none, list_cut, list_empty, list_long}
 use Rattle.records.proofs.NListLaws.{list_counted}
 use borrow.Author.Rules.{rules}
@@ -11,13 +11,13 @@ use Rattle.records.proofs.nlist.read_n_list.Tie as tie
 returns : tie.Need-returns
 returns c =
     let a = c.before.before.args in
-    sym (list_none a.section.now a.size a.at a.with-n (not_true _ c.if1.true))
+    sym (list_none a.section.now a.size a.at a.with-n (not-true _ c.if1.true))
 
 returns-2 : tie.Need-returns-2
 returns-2 c =
     let a = c.before.before.before.args in
     sym
-    (list_cut a.section.now a.size a.at a.with-n (not_false _ c.before.if1.false)
+    (list_cut a.section.now a.size a.at a.with-n (not-false _ c.before.if1.false)
     (omega arith))
 
 shared-slice-read-size8 : tie.Need-shared-slice-read-size8
@@ -33,7 +33,7 @@ returns-3 c =
     let a = some.before.before.before.args in
     sym
     (list_empty a.section.now a.size a.at a.with-n
-    (not_false _ some.before.if1.false) read.size8.result read.size8.ensures.0
+    (not-false _ some.before.if1.false) read.size8.result read.size8.ensures.0
     (omega arith) (omega arith))
 
 returns-4 : tie.Need-returns-4
@@ -43,7 +43,7 @@ returns-4 c =
     let a = some.before.before.before.args in
     sym
     (list_long a.section.now a.size a.at a.with-n
-    (not_false _ some.before.if1.false) read.size8.result read.size8.ensures.0
+    (not-false _ some.before.if1.false) read.size8.result read.size8.ensures.0
     (omega arith) (omega arith))
 
 add-read-n-places : tie.Need-overflow-add-read-n-places
@@ -58,7 +58,7 @@ returns-5 c =
     let some = read.before.before in
     let a = some.before.before.before.args in
     list_counted a.section.now a.size a.at a.with-n
-    (not_false _ some.before.if1.false) read.size8.result read.size8.ensures.0
+    (not-false _ some.before.if1.false) read.size8.result read.size8.ensures.0
     (omega arith) c.before.before.if3.false (omega arith) _
     c.read-n-places.ensures
 
