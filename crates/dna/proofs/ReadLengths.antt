@@ -7,13 +7,15 @@ use lib.ListN.{length}
 use Rattle.base.specs.Groups.{in_groups}
 use Rattle.base.proofs.GroupLaws.{flatten-in_groups}
 use Rattle.dna.specs.Division.{GroupFlags, Piece, Division, Slot, context_of, group_slots}
+use Rattle.dna.specs.Alignment.{position_after}
 use Rattle.dna.specs.Division.{slots, reads_from, reads_of, GroupsMeet}
 
 slot-lengths : (bases previous : ℕ) (list : List Slot)
     → map (λ read. read.context.read_length) (reads_from bases previous list) ≡ map (λ slot. slot.read_length) list
 unfolding reads_from context_of
 slot-lengths bases previous [] = refl
-slot-lengths bases previous (slot ∷ list) = ap (λ (rest : List ℕ). slot.read_length ∷ rest) (slot-lengths bases _ list)
+slot-lengths bases previous (slot ∷ list) = ap (λ (rest : List ℕ). slot.read_length ∷ rest) (slot-lengths bases
+    (position_after (context_of bases slot.flags slot.place previous slot.read_length) slot.piece.stored.fields) list)
 
 group-lengths : (flags : GroupFlags) (place : ℕ) (lengths : List ℕ) (pieces : List Piece) (rest : List Slot) → length pieces ≡ length lengths
     → map (λ slot. slot.read_length) (group_slots flags place lengths pieces ++ rest) ≡ lengths ++ map (λ slot. slot.read_length) rest

@@ -60,7 +60,9 @@ nearest-from bases previous (slot ∷ later) [] earlier between read after e pla
     ∙ after-placed context fields (ap (λ (r : Read). is_aligned r.piece.stored.fields) same ∙ placed)
     ∙ ap position_of same
 nearest-from bases previous (slot ∷ later) (first ∷ before) earlier between read after e placed none =
-    nearest-from bases _ later before earlier between read after (tail-eq_of_cons-eq e) placed none
+    nearest-from bases
+    (position_after (context_of bases slot.flags slot.place previous slot.read_length) slot.piece.stored.fields)
+    later before earlier between read after (tail-eq_of_cons-eq e) placed none
 
 -- A step of a read of a division adds to the position of the nearest earlier read of the block that has one, else
 -- to 0.

@@ -26,7 +26,9 @@ pub last_position-append : (bases previous : ℕ) (front back : List Slot)
     → last_position bases previous (front ++ back) ≡ last_position bases (last_position bases previous front) back
 unfolding last_position
 last_position-append bases previous [] back = refl
-last_position-append bases previous (slot ∷ front) back = last_position-append bases _ front back
+last_position-append bases previous (slot ∷ front) back =
+    last_position-append bases
+    (position_after (context_of bases slot.flags slot.place previous slot.read_length) slot.piece.stored.fields) front back
 
 -- ---- The records of a group
 
