@@ -1,2 +1,4 @@
 // The definitions of bytes and packed symbols stand in specs/, their laws in proofs/. There is no
 // code here.
+
+#![tactic(auto)]

@@ -9,6 +9,7 @@
 //
 // A file's line: its name and `accepted` with the blocks and the five sums, or `refused` with the
 // number, the block and the read.
+#![tactic(auto)]
 mod block;
 mod damage;
 mod damaged_dna;

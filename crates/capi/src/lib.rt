@@ -1,6 +1,7 @@
 // The public calls as C functions, as include/ora.h declares them: a slice is a pointer and a
 // length, and the answer sixteen numbers. Each is thin over the crate ora; the contracts cite the
 // same definitions, through specs/Slots.antt, and none has a `requires`.
+#![tactic(auto)]
 ghost use Rattle.std.specs.Prelude.{◌≡◌, ◌∷◌, replicate};
 ghost use Rattle.format.specs.Outcome.{refusal};
 ghost use Rattle.format.specs.Answered.{

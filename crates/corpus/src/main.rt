@@ -1,5 +1,6 @@
 // Runs the cases of the second implementation (rust/second/CORPUS.md) through the public calls and
 // prints what they give; the file stdout holds what the second implementation gives.
+#![tactic(auto)]
 mod case_files;
 mod kinds;
 mod lines;

@@ -2,6 +2,7 @@
 // numbers of refusal. Their meaning is given in specs/, which name none of them below the answers
 // of the calls.
 
+#![tactic(auto)]
 pub mod refusals;
 
 // The strand that a read was aligned to.

@@ -5,6 +5,7 @@
 // hexadecimal digits, and what validate_block then answers: the length, and reads, letters,
 // entries, differences and top; or `refused` with the number, and whether the buffer holds what it
 // held before.
+#![tactic(auto)]
 mod differences;
 mod lines;
 mod refusals;

@@ -1,6 +1,7 @@
 // Judging a file (01, Numbers of refusal: a file is judged block by block): one pass over its
 // bytes, nothing copied. The contract of the public call cites specs/FileAnswer.antt of format; it
 // has no `requires`.
+#![tactic(auto)]
 ghost use Rattle.std.specs.Prelude.{◌≡◌, ◌==◌};
 ghost use Rattle.dna.specs.Counts.{zero_counts};
 ghost use Rattle.format.specs.Answered.{counted_of, outcome_of_file, accepts_file};

@@ -2,6 +2,7 @@
 // fields read, its faults 2 to 8, the place of each section, and a table written. The contracts
 // cite specs/Header.antt, Sections.antt, HeaderFaults.antt, BlockAnswer.antt and RuleBlock.antt of
 // format.
+#![tactic(auto)]
 pub mod faults;
 pub mod fields;
 pub mod sections;

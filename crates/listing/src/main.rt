@@ -1,4 +1,5 @@
 // listing REFERENCE BLOCKS: prints the reads of a file of blocks, as 01's listing program does.
+#![tactic(auto)]
 use libc::STDERR_FILENO;
 
 fn main() {

@@ -1,6 +1,7 @@
 // Lists files of its own, made by the second implementation (rust/second/src/listing_cases.rs): the
 // specification's example, refused references and blocks, as much as fits and one more, and reads
 // at the top. The case NAME has the files NAME.reference and NAME.blocks.
+#![tactic(auto)]
 use libc::STDOUT_FILENO;
 use lines::put_text;
 

@@ -2,6 +2,7 @@
 // text on standard output. What is printed is crate lines'; here files are read and text is
 // written. What cannot be opened, read or written is said on standard error, and then no line `end`
 // or `refused` is printed.
+#![tactic(auto)]
 mod all_blocks;
 pub mod windows;
 

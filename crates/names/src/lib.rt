@@ -2,6 +2,7 @@
 // names. Between rows each column has a place and a number in two arrays. The contracts cite
 // specs/NamesAt.antt of tokens, specs/Judged.antt and specs/Cursors.antt; each `requires` of a
 // public function is one that the caller has tested before.
+#![tactic(auto)]
 ghost use Rattle.std.specs.Prelude.{◌≡◌, true, false, ◌+◌, ◌≤◌, ◌<◌, length};
 ghost use mathlib.Core.List.{map, flatten};
 ghost use Rattle.base.specs.Lists.{any, places_from};

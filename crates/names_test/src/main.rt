@@ -7,6 +7,7 @@
 // name ends, each pair as it was lent or `untouched`. A line of the writer: `written` with the
 // block's length, the types of the columns, and names and name ends that decode reads of it; or
 // `refused` with the number, and whether the buffer holds what it held before.
+#![tactic(auto)]
 mod block;
 mod column_faults;
 mod lines;

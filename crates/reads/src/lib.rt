@@ -2,6 +2,7 @@
 // one step and the walk of so many steps. Only `walk` steps; whoever wants one read asks it for
 // one. The contracts cite specs/Cursor.antt and specs/Walked.antt; what later walks rest on is
 // proofs/ReadLaws.antt.
+#![tactic(auto)]
 ghost use Rattle.std.specs.Prelude.{◌≡◌, true, ◌+◌, ◌≤◌, ◌<◌, length};
 ghost use Rattle.base.specs.Numbers.{non_negative};
 ghost use Rattle.dna.specs.Reference.{ReferenceFits};

@@ -2,6 +2,7 @@
 // placement, the position before, its entry bytes and the letters of its read. position.rt and
 // kinds.rt write the parts. The contracts cite specs/Written.antt; each `requires` says that the
 // record can be written (specs/Writable.antt), and that there is room.
+#![tactic(auto)]
 ghost use Rattle.std.specs.Prelude.{◌≡◌, List, ℕ, ◌+◌, ◌^◌, ◌≤◌, length};
 ghost use Rattle.base.specs.Paste.{pasted};
 ghost use Rattle.dna.specs.Record.{max_entries, Entry};

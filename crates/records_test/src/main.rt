@@ -1,6 +1,7 @@
 // A test of records and record_letters: the specification's sums on records, other records that are
 // good, and a damaged record for each of the rules 12 to 20. The reference is ACGTACGTTGCA. The
 // file stdout holds what the specification gives.
+#![tactic(auto)]
 mod damage;
 mod good;
 mod lines;

@@ -1,6 +1,7 @@
 // The reference: its size, its bases, and the ASCII letters of a stretch on either strand. The
 // contracts cite dna/specs/Reference.antt; the tables of words are those of specs/Tables.antt, made
 // once and lent to each call.
+#![tactic(auto)]
 ghost use Rattle.std.specs.Prelude.{◌≡◌, Bool, true, false, ◌+◌, ◌-◌, ◌*◌, ◌/◌, ◌<◌, ◌≤◌, ◌^◌, length, get_or};
 ghost use Rattle.base.specs.Lists.{Below};
 ghost use Rattle.base.specs.Paste.{pasted};

@@ -1,0 +1,14 @@
+-- `packing::symbol2` meets its contract: a digit of two bits is a shift, then a remainder.
+-- Assumes nothing.
+use Prim.Native.Nat.{◌/◌, ◌%◌}
+use native.Mathlib.Omega.{arith}
+use lib.ListN.{get_or}
+use Rattle.base.proofs.PackedLaws.{shift-digit}
+use Rattle.base.specs.Packed.{symbol_at}
+use Rattle.packing.proofs.symbol2.Goals as goal
+
+pub returns : goal.returns
+unfolding symbol_at
+returns c =
+    let a = c.args in
+    shift-digit 2 4 (get_or a.s.now (a.i / 4) 0) (a.i % 4) _ (omega arith)
