@@ -22,7 +22,7 @@ pub fn block_buffer() -> [u8; BLOCK_CAPACITY]
 }
 
 // What a header says of the reads.
-#[derive(Drop)]
+#[derive(Clone, Copy)]
 pub struct Reads {
     flags: u32,
     size: u32,

@@ -20,7 +20,7 @@ pub const UNTOUCHED_LETTER: u8 = b'.';
 pub const UNTOUCHED_END: u32 = 99;
 
 // How many letters and ends are lent.
-#[derive(Drop)]
+#[derive(Clone, Copy)]
 pub struct Room {
     letters: usize,
     ends: usize,

@@ -44,7 +44,7 @@ const N_READS_AT: usize = 50;
 const L_DNA_RAW_AT: usize = 73;
 
 // What is built: where its last block begins, and where it ends.
-#[derive(Drop)]
+#[derive(Clone, Copy)]
 pub struct Built {
     pub start: usize,
     pub end: usize,

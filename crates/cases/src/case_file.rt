@@ -30,7 +30,7 @@ pub const CASE_HEADER_LENGTH: usize = 104;
 const FILE_MAGIC: u64 = 0x3245_5341_4341_524f;
 
 // The header of a case: how much a call is given and lent. What its kind does not use is 0.
-#[derive(Drop)]
+#[derive(Clone, Copy)]
 pub struct CaseHeader {
     // Of the whole case.
     pub length: u32,
@@ -61,14 +61,14 @@ pub struct CaseHeader {
 }
 
 // How many cases a file says that it has.
-#[derive(Drop)]
+#[derive(Clone, Copy)]
 pub enum CountRead {
     Found(u32),
     // Not a case file.
     Bad,
 }
 
-#[derive(Drop)]
+#[derive(Clone, Copy)]
 pub enum CaseRead {
     Found(CaseHeader),
     // The bytes end too soon, or the payload has another length than the header says.

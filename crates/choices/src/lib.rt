@@ -23,7 +23,7 @@ use n_lists::count_n;
 const MAX_N_POSITIONS: usize = 31;
 
 // A record, how many entries it has, and how many letters of its read are N.
-#[derive(Drop)]
+#[derive(Clone, Copy)]
 pub struct Chosen {
     pub record: Record,
     pub entries: usize,

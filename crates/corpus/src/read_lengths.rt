@@ -13,7 +13,7 @@ use lengths::blocks::lengths_fault;
 use lengths::{LengthStep, SizeCursor};
 
 // What the lengths amount to.
-#[derive(Drop)]
+#[derive(Clone, Copy)]
 struct Summary {
     sum: u64,
     // Of each length's four bytes.

@@ -6,7 +6,7 @@
 pub mod refusals;
 
 // The strand that a read was aligned to.
-#[derive(Drop)]
+#[derive(Clone, Copy)]
 pub enum Strand {
     Forward,
     Reverse,
@@ -15,7 +15,7 @@ pub enum Strand {
 // Where an aligned read lies on the reference (01: a place): its position, exact and never wrapped,
 // where the stretch begins or, of a reverse local record, ends (02, Ticket 2); the strand; and the
 // letters clipped at each end, 0 where the whole read is aligned.
-#[derive(Drop)]
+#[derive(Clone, Copy)]
 pub struct Placement {
     pub position: u64,
     pub strand: Strand,
@@ -25,7 +25,7 @@ pub struct Placement {
 
 // One record of the DNA section (01: each record is one of five kinds, and a placed one carries its
 // own place).
-#[derive(Drop)]
+#[derive(Clone, Copy)]
 pub enum Record {
     Perfect(Placement),
     Global(Placement),
@@ -38,7 +38,7 @@ pub enum Record {
 pub const MAX_ENTRIES: usize = 31;
 
 // The counts of a block or of a file (01: counts of a block; the last is that of 02, Ticket 4).
-#[derive(Drop)]
+#[derive(Clone, Copy)]
 pub struct Counts {
     pub reads: u64,
     pub letters: u64,

@@ -23,7 +23,7 @@ use record_writer::position::step_fits;
 use record_writer::put_record;
 
 // Where the writing of a group stands.
-#[derive(Drop)]
+#[derive(Clone, Copy)]
 pub struct GroupWriter {
     // The byte after what is written.
     pub place: usize,

@@ -5,7 +5,7 @@
 use dna::Counts;
 
 // The answer on one block, judged or decoded.
-#[derive(Drop)]
+#[derive(Clone, Copy)]
 pub enum BlockOutcome {
     // Its length in bytes, and its counts.
     Accepted(u64, Counts),
@@ -14,7 +14,7 @@ pub enum BlockOutcome {
 }
 
 // The answer on a file.
-#[derive(Drop)]
+#[derive(Clone, Copy)]
 pub enum FileOutcome {
     // The number of its blocks, and the sums of their counts, each modulo 2 ^ 64.
     Accepted(u64, Counts),
@@ -23,7 +23,7 @@ pub enum FileOutcome {
 }
 
 // The answer of the writer.
-#[derive(Drop)]
+#[derive(Clone, Copy)]
 pub enum EncodeOutcome {
     // The length of the block in bytes.
     Written(u64),

@@ -29,7 +29,7 @@ pub const SIZE_SECTION: u64 = 4;
 pub const N_SECTION: u64 = 5;
 
 // Where a section stands in the block, in bytes.
-#[derive(Drop)]
+#[derive(Clone, Copy)]
 pub struct Span {
     pub offset: usize,
     pub size: usize,

@@ -23,7 +23,7 @@ const HEADER_LENGTH: u32 = TABLE_LENGTH as u32;
 const QUALITY_TYPE: u32 = 40;
 
 // The fields that vary from block to block.
-#[derive(Drop)]
+#[derive(Clone, Copy)]
 pub struct VaryingFields {
     pub l_dna: u32,
     pub l_names: u32,

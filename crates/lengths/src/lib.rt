@@ -33,7 +33,7 @@ pub mod write;
 const MAX_READ_LENGTH: u32 = 100_000;
 
 // Where a walk over the lengths stands.
-#[derive(Drop)]
+#[derive(Clone, Copy)]
 pub struct SizeCursor {
     // The next byte of the section.
     pub at: usize,
@@ -49,7 +49,7 @@ pub struct SizeCursor {
 }
 
 // A cursor that holds the flag bytes of its group.
-#[derive(Drop)]
+#[derive(Clone, Copy)]
 pub enum FlagStep {
     Found(SizeCursor),
     // The section ends before them.
@@ -57,7 +57,7 @@ pub enum FlagStep {
 }
 
 // A stored length and the byte after it.
-#[derive(Drop)]
+#[derive(Clone, Copy)]
 pub enum SizeRead {
     Found(u32, usize),
     // Both bits are set, the section ends too soon, or a word or the length is too large.
@@ -65,7 +65,7 @@ pub enum SizeRead {
 }
 
 // The length of a read, and the cursor at the next read.
-#[derive(Drop)]
+#[derive(Clone, Copy)]
 pub enum LengthStep {
     Found(u32, SizeCursor),
     // Refusal 9.
@@ -73,7 +73,7 @@ pub enum LengthStep {
 }
 
 // The sum of the lengths of all reads.
-#[derive(Drop)]
+#[derive(Clone, Copy)]
 pub enum LengthsSum {
     Found(u64),
     // Refusal 9.

@@ -25,7 +25,7 @@ const BYTE_LIMIT: u32 = 256;
 const NO_LENGTH: u64 = 4294967296;
 
 // Where the writing of a group stands.
-#[derive(Drop)]
+#[derive(Clone, Copy)]
 struct GroupWriter {
     // The byte after what is written.
     place: usize,

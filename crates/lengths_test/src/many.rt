@@ -13,7 +13,7 @@ const SECTION_CAPACITY: usize = 87_500;
 const GROUP_BYTES: usize = 14;
 
 // What a walk over lengths gives.
-#[derive(Drop)]
+#[derive(Clone, Copy)]
 struct Walked {
     sum: u64,
     // It ended where the section does.

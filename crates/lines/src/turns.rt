@@ -37,7 +37,7 @@ pub const NAME_ENDS_LENT: usize = 4_096;
 pub const TEXT_ROOM: usize = 37_034;
 
 // What a turn gave: the length of its text, and how far the window moves; 0 after a refusal.
-#[derive(Drop)]
+#[derive(Clone, Copy)]
 pub struct Turn {
     pub size: usize,
     pub moved: usize,

@@ -9,7 +9,7 @@ ghost use Rattle.listing_files.specs.Filled.{FilledIn, WindowIn};
 use lines::turns::MAX_BYTES;
 
 // How far a buffer is filled.
-#[derive(Drop)]
+#[derive(Clone, Copy)]
 pub enum Filled {
     To(usize),
     // A read failed, and errno says why.
@@ -17,7 +17,7 @@ pub enum Filled {
 }
 
 // What is left of the file, as far as it was read: from an index of the buffer up to another.
-#[derive(Drop)]
+#[derive(Clone, Copy)]
 pub enum Window {
     At(usize, usize),
     // A read failed, and errno says why.

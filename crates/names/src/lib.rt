@@ -29,7 +29,7 @@ mod decimal;
 const MAX_NAME: usize = 255;
 
 // The bytes of all names of a section, or that it stores none (40).
-#[derive(Drop)]
+#[derive(Clone, Copy)]
 pub enum NamesJudged {
     Bytes(u64),
     Invalid,

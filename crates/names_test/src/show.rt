@@ -19,7 +19,7 @@ pub const UNTOUCHED_BYTE: u8 = b'.';
 pub const UNTOUCHED_END: u32 = 99;
 
 // How many letters, name bytes and name ends are lent.
-#[derive(Drop)]
+#[derive(Clone, Copy)]
 pub struct Room {
     letters: usize,
     names: usize,

@@ -122,7 +122,7 @@ pub fn encode(
 // ---- Looking into a block
 
 // Where a section stands in the block, in bytes.
-#[derive(Drop)]
+#[derive(Clone, Copy)]
 pub struct Span {
     pub offset: u64,
     pub size: u64,

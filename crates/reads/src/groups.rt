@@ -9,7 +9,7 @@ use integers::{size32, u32_at, wide16, wide32};
 use records::Bits;
 
 // Where a read's record stands, and the bytes of its group.
-#[derive(Drop)]
+#[derive(Clone, Copy)]
 pub enum GroupStep {
     Found(usize, u32),
     Refused(u32),

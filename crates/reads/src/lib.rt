@@ -39,7 +39,7 @@ pub mod groups;
 pub mod visit;
 
 // Where a walk over the reads stands. The order of the fields leaves no padding.
-#[derive(Drop)]
+#[derive(Clone, Copy)]
 pub struct ReadCursor {
     // The next byte of the DNA section.
     pub at: usize,
@@ -55,7 +55,7 @@ pub struct ReadCursor {
 }
 
 // A read: how many letters it has, its record, and where the lists of that stand.
-#[derive(Drop)]
+#[derive(Clone, Copy)]
 pub struct Read {
     pub length: usize,
     pub record: Record,
@@ -63,7 +63,7 @@ pub struct Read {
 }
 
 // The next read, and the cursor after it.
-#[derive(Drop)]
+#[derive(Clone, Copy)]
 pub enum ReadStep {
     Found(Read, ReadCursor),
     // The number of refusal, and the index of the read.
@@ -71,7 +71,7 @@ pub enum ReadStep {
 }
 
 // So many reads from a cursor on.
-#[derive(Drop)]
+#[derive(Clone, Copy)]
 pub enum Walked {
     // The cursor after them, the last of them, and their counts.
     At(ReadCursor, Read, Counts),

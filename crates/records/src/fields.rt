@@ -7,7 +7,7 @@ ghost use Rattle.records.specs.Decoded.{position_at, entries_fit, codes_class};
 use integers::{size8, u16_at, u32_at, wide32, wide64};
 
 // A position and the byte after it.
-#[derive(Drop)]
+#[derive(Clone, Copy)]
 pub enum PositionRead {
     Found(u64, usize),
     // The section ends before it: refusal 12.

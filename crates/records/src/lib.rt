@@ -30,7 +30,7 @@ pub mod fields;
 pub mod nlist;
 
 // A read's bit of each of the four group bytes; `step` is pos_t.
-#[derive(Drop)]
+#[derive(Clone, Copy)]
 pub struct Bits {
     pub perfect: bool,
     pub forward: bool,
@@ -39,7 +39,7 @@ pub struct Bits {
 }
 
 // Where a record's lists stand in the section, and where it ends.
-#[derive(Drop)]
+#[derive(Clone, Copy)]
 pub struct Layout {
     pub entries: usize,
     pub entry_count: usize,
@@ -50,7 +50,7 @@ pub struct Layout {
 }
 
 // The record at a place, or the number of its first fault.
-#[derive(Drop)]
+#[derive(Clone, Copy)]
 pub enum Decoded {
     Found(Record, Layout),
     Refused(u32),

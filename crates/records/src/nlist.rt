@@ -10,14 +10,14 @@ use dna::refusals::{DNA_TRUNCATED, N_POSITIONS_INVALID};
 use integers::{size8, size16, u16_at};
 
 // The place of an N in the read, and the byte after its words.
-#[derive(Drop)]
+#[derive(Clone, Copy)]
 pub enum NPlace {
     Found(usize, usize),
     Refused(u32),
 }
 
 // Where the words of an N list begin, how many places it has, and the byte after it.
-#[derive(Drop)]
+#[derive(Clone, Copy)]
 pub enum NList {
     Found(usize, usize, usize),
     Refused(u32),

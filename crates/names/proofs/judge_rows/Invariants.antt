@@ -1,0 +1,24 @@
+-- `names::judge_rows` meets its contract. The loop's invariant: the answer is that of the bytes so
+-- far and the rows that are left. Assumes nothing.
+use mathlib.Core.Path.{◌≡◌}
+use mathlib.Core.Bool.{true}
+use Prim.Native.Nat.{◌-◌, ◌*◌, ◌≤◌}
+use lib.ListN.{length}
+use lib.Dec.{eqb}
+use Rattle.names.specs.Cursors.{cursors_of}
+use Rattle.names.specs.Judged.{judged_from}
+use Rattle.names.proofs.judge_rows.Given as goal
+
+abbrev pub invariant-loop-i : goal.invariant-loop-i
+invariant-loop-i l =
+    (l.i ≤ l.reads)
+    × (l.sum ≤ 255 * l.i)
+    × (length l.places ≡ length l.initial.places)
+    × (length l.values ≡ length l.initial.values)
+    × (judged_from 0 l.reads l.section l.columns true (cursors_of l.section l.initial.places l.initial.values l.columns)
+    ≡ judged_from l.sum (l.reads - l.i) l.section l.columns (eqb l.i 0) (cursors_of l.section l.places l.values
+    l.columns))
+
+abbrev pub decreases-loop-i : goal.decreases-loop-i
+decreases-loop-i l =
+    l.reads - l.i

@@ -1,0 +1,43 @@
+-- `names::put_rows` meets its contract. The loop's invariant: writing what is left of the names and
+-- of their ends makes the buffers what they are to be, and the rows that are left are right.
+-- Assumes nothing.
+use mathlib.Core.Path.{◌≡◌}
+use mathlib.Core.Bool.{false}
+use mathlib.Core.List.{map, flatten}
+use Prim.Native.Nat.{◌+◌, ◌-◌, ◌*◌, ◌≤◌}
+use lib.ListN.{length}
+use lib.Dec.{eqb}
+use Rattle.base.specs.Lists.{places_from}
+use Rattle.base.specs.Paste.{pasted}
+use Rattle.base.proofs.PastingLaws.{Pasting}
+use Rattle.tokens.specs.NamesAt.{rows_invalid}
+use Rattle.names.specs.Cursors.{cursors_of}
+use Rattle.names.proofs.PutRowsLaws.{names_left}
+use Rattle.names.proofs.put_rows.Given as goal
+
+abbrev pub invariant-loop-i : goal.invariant-loop-i
+invariant-loop-i l =
+    (l.i ≤ l.reads)
+    × (l.at ≤ 255 * l.i)
+    × (length l.places ≡ length l.initial.places)
+    × (length l.values ≡ length l.initial.values)
+    × (length l.names ≡ length l.initial.names)
+    × (length l.ends ≡ length l.initial.ends)
+    × (rows_invalid (l.reads - l.i) l.section (eqb l.i 0) (cursors_of l.section l.places l.values l.columns) ≡ false)
+    × Pasting
+    (pasted l.initial.names 0 (flatten (names_left l.section l.reads 0 (cursors_of l.section l.initial.places l.initial.values
+    l.columns))))
+    (0 + length (flatten (names_left l.section l.reads 0 (cursors_of l.section l.initial.places l.initial.values l.columns))))
+    l.names l.at
+    (flatten (names_left l.section l.reads l.i (cursors_of l.section l.places l.values l.columns)))
+    × Pasting
+    (pasted l.initial.ends 0 (places_from 0 (map length (names_left l.section l.reads 0 (cursors_of l.section l.initial.places
+    l.initial.values l.columns)))))
+    (0 + length (places_from 0 (map length (names_left l.section l.reads 0 (cursors_of l.section l.initial.places
+    l.initial.values l.columns)))))
+    l.ends l.i (places_from l.at (map length (names_left l.section l.reads l.i (cursors_of l.section l.places l.values
+    l.columns))))
+
+abbrev pub decreases-loop-i : goal.decreases-loop-i
+decreases-loop-i l =
+    l.reads - l.i
