@@ -27,6 +27,8 @@ use Rattle.format.specs.Joined.{block_reads}
 use Rattle.format.specs.Outcome.{accepted_block, refusal}
 use Rattle.format.specs.BlockAnswer.{Buffers, decoded, decoded_buffers}
 use Rattle.format.specs.RuleRecord.{Candidate, Written}
+use Rattle.dna.specs.Alignment.{position_after}
+use Rattle.format.specs.RuleRecord.{written}
 use Rattle.format.specs.RuleBlock.{written_from, written_division, written_n_section}
 use Rattle.format.specs.RuleBlock.{written_sizes, written_header, rule_block}
 use Rattle.format.specs.EncodeAnswer.{EncodeInput, candidates_of, block_of, encode_number}
@@ -78,7 +80,8 @@ unfolding written_from
 all-fillers bases reference previous [] candidates = tt
 all-fillers bases reference previous (read ∷ codes) [] = tt
 all-fillers bases reference previous (read ∷ codes) (candidate ∷ candidates) =
-    (written-fillers bases reference previous read candidate, all-fillers bases reference _ codes candidates)
+    (written-fillers bases reference previous read candidate, all-fillers bases reference (position_after (written bases reference previous read candidate).context
+    (written bases reference previous read candidate).stored.fields) codes candidates)
 
 rule-fillers : (bases : ℕ) (reference : List ℕ) (codes : List (List ℕ)) (candidates : List Candidate) → WrittenReads bases codes candidates
     → All (λ read. FillersHold reference read.context read.piece.stored)

@@ -16,6 +16,8 @@ use Rattle.dna.specs.Division.{group_bytes, division_bytes}
 use Rattle.dna.proofs.RecordBytes.{record_bytes-bytes}
 use Rattle.dna.proofs.RulesMean.{rules_mean}
 use Rattle.format.specs.RuleRecord.{Candidate, Written}
+use Rattle.dna.specs.Alignment.{position_after}
+use Rattle.format.specs.RuleRecord.{written}
 use Rattle.format.specs.RuleBlock.{written_from, written_group, written_division}
 use Rattle.format.specs.RuleBlock.{written_n_section}
 use Rattle.format.proofs.WrittenRecord.{CandidateFits, written-meets}
@@ -42,7 +44,8 @@ all_meet bases reference previous [] candidates small n below fits = tt
 all_meet bases reference previous (codes ∷ reads) [] small n below fits = absurd (omega arith)
 all_meet bases reference previous (codes ∷ reads) (candidate ∷ candidates) small n below fits = (
   written-meets bases reference previous codes candidate small below.0 fits.0,
-  all_meet bases reference _ reads candidates small (omega arith) below.1 fits.1,
+  all_meet bases reference (position_after (written bases reference previous codes candidate).context
+    (written bases reference previous codes candidate).stored.fields) reads candidates small (omega arith) below.1 fits.1,
 )
 
 pub meet-count : (reference : List ℕ) (reads : List (List ℕ)) (ws : List Written) → AllMeet reference reads ws → length ws ≡ length reads

@@ -55,7 +55,8 @@ threads-written bases reference previous [] candidates = tt
 threads-written bases reference previous (codes ∷ reads) [] = tt
 threads-written bases reference previous (codes ∷ reads) (candidate ∷ candidates) =
     let same = as-bases (choice_for bases reference codes candidate) bases reference previous codes candidate in
-    (same.0, same.1, threads-written bases reference _ reads candidates)
+    (same.0, same.1, threads-written bases reference (position_after (written bases reference previous codes candidate).context
+    (written bases reference previous codes candidate).stored.fields) reads candidates)
 
 -- The position after some records.
 unfoldable thread_end : (previous : ℕ) (ws : List Written) → ℕ
@@ -64,12 +65,12 @@ thread_end previous (w ∷ ws) = thread_end (position_after w.context w.stored.f
 
 threads-left : (bases previous : ℕ) (ws rest : List Written) → Threads bases previous (ws ++ rest) → Threads bases previous ws
 threads-left bases previous [] rest h = tt
-threads-left bases previous (w ∷ ws) rest h = (h.0, h.1, threads-left bases _ ws rest h.2)
+threads-left bases previous (w ∷ ws) rest h = (h.0, h.1, threads-left bases (position_after w.context w.stored.fields) ws rest h.2)
 
 threads-right : (bases previous : ℕ) (ws rest : List Written) → Threads bases previous (ws ++ rest) → Threads bases (thread_end previous ws) rest
 unfolding thread_end
 threads-right bases previous [] rest h = h
-threads-right bases previous (w ∷ ws) rest h = threads-right bases _ ws rest h.2
+threads-right bases previous (w ∷ ws) rest h = threads-right bases (position_after w.context w.stored.fields) ws rest h.2
 
 -- ---- The bits of a group
 

@@ -50,7 +50,7 @@ put_rows-requires c =
     let n : ℕ = c.size32-columns.result in
     let is : n ≡ column_count s = c.size32-columns.ensures.0 ∙ c.u32_at.ensures in
     let right = names-right a.reads s c.if-reads-eq0.false c.requires.section_value.0 in
-    let cursors : List Cursor = cursors_of s c.first_places.new.1.1.0 c.first_places.new.1.1.1.0 n in
+    let cursors : List Cursor = cursors_of s c.first_places.new.places c.first_places.new.values n in
     let start : cursors ≡ first_cursors s (column_count s) = c.first_places.ensures ∙ ap (first_cursors s) is in
     let size : length (flatten (names_from a.reads s true cursors)) ≡ length (flatten (names_read
     a.reads s)) =
@@ -58,10 +58,10 @@ put_rows-requires c =
     record {
       table_fits = table_fits s n _ _ (ap (table_invalid s) is ∙ right.0) (omega (
         arith,
-        c.first_places.auto.1.1.0,
+        c.first_places.auto.places,
       )) (omega (
         arith,
-        c.first_places.auto.1.1.1.0,
+        c.first_places.auto.values,
       ));
       columns_value = (ap (rows_invalid a.reads s true) start ∙ right.1, omega arith);
       columns_in_bounds = (
@@ -81,7 +81,7 @@ returns c =
     let s : List ℕ = a.section.now in
     let n : ℕ = c.size32-columns.result in
     let is : n ≡ column_count s = c.size32-columns.ensures.0 ∙ c.u32_at.ensures in
-    let start : cursors_of s c.first_places.new.1.1.0 c.first_places.new.1.1.1.0 n ≡ first_cursors s (column_count s) =
+    let start : cursors_of s c.first_places.new.places c.first_places.new.values n ≡ first_cursors s (column_count s) =
     c.first_places.ensures ∙ ap (first_cursors s) is in
     let put = c.put_rows.ensures in (
       put.0 ∙ ap (λ (cs : List Cursor). pasted a.names.now 0 (flatten (names_from a.reads s

@@ -84,7 +84,7 @@ loop-i-preserved c =
     let put = c.put_row-at.ensures in
     let end : ℕ = c.put_row-at.result in
     let cursors : List Cursor = cursors_of s l.places l.values a.columns in
-    let cursors' : List Cursor = cursors_of s c.put_row-at.new.1.1.1.0 c.put_row-at.new.1.1.1.1.0 a.columns in
+    let cursors' : List Cursor = cursors_of s c.put_row-at.new.places c.put_row-at.new.values a.columns in
     let more : l.i < a.reads = omega arith in
     let next = row_next s a.reads l.i cursors more l.invariant.6 in (
       omega arith,
