@@ -17,13 +17,13 @@ global : (c : In-Global-2)
     → EntriesLaid c.args.section.now
     c.args.reference.now
     c.args.layout
-    c.«record».given.0.0.position
+    c.in-Global.placement.position
     c.args.size
 global c =
     let a = c.args in
     subst
     (λ (r : Record). PlacedIn a.section.now a.reference.now a.size r a.layout)
-    c.«record».given.1 c.requires.placed
+    c.in-Global.is c.requires.placed
 
 local : (c : In-Local-2)
     → PlacedIn c.args.section.now
@@ -101,10 +101,10 @@ returns-in-Global c =
     let a = c.args in
     c.aligned_differences.ensures
     ∙ of_global a.section.now a.reference.now a.size a.layout
-    c.«record».given.0.0 c.is_forward-forward.result c.size64-leftmost.result
+    c.in-Global.placement c.is_forward-forward.result c.size64-leftmost.result
     c.is_forward-forward.ensures c.size64-leftmost.ensures.0
     ∙ ap (differences_of a.section.now a.reference.now a.size a.layout)
-    (sym c.«record».given.1)
+    (sym c.in-Global.is)
 
 pub returns-in-Local : goal.returns-in-Local
 returns-in-Local c =

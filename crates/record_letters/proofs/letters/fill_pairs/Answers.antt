@@ -3,13 +3,13 @@ use native.Mathlib.Omega.{arith}
 use mathlib.Core.Path.{◌∙◌, sym}
 use Rattle.base.proofs.FilledLaws.{filled_none, filled_next, filled-all}
 use Rattle.base.proofs.PasteLaws.{pasted_whole}
-use Rattle.record_letters.specs.Printed.{pair_table}
-use Rattle.record_letters.proofs.PairLaws.{length-pair_table, get_or-pair_table}
+use Rattle.record_letters.specs.Printed.{pair_words}
+use Rattle.record_letters.proofs.PairLaws.{length-pair_words, get_or-pair_words}
 use Rattle.record_letters.proofs.letters.fill_pairs.Goals as goal
 
 pub loop-byte-init : goal.loop-byte-init
 loop-byte-init c =
-    (omega arith, filled_none c.args.table.now 0 pair_table)
+    (omega arith, filled_none c.args.table.now 0 pair_words)
 
 pub bounds-table-byte : goal.bounds-table-byte
 bounds-table-byte c =
@@ -18,12 +18,12 @@ bounds-table-byte c =
 pub loop-byte-preserved : goal.loop-byte-preserved
 loop-byte-preserved c =
     let l = c.loop-byte in
-    let size = length-pair_table in (
+    let size = length-pair_words in (
       omega arith,
       filled_next l.byte c.pair_word.result l.invariant.1 (omega arith) (omega arith)
           (omega arith)
           (c.pair_word.ensures
-          ∙ sym (get_or-pair_table l.byte c.loop-byte-test.true)),
+          ∙ sym (get_or-pair_words l.byte c.loop-byte-test.true)),
     )
 
 pub shape_of-table : goal.shape_of-table
@@ -33,6 +33,6 @@ shape_of-table c =
 pub returns : goal.returns
 returns c =
     let a = c.args in
-    let size = length-pair_table in
+    let size = length-pair_words in
     filled-all c.loop-byte.invariant.1 (omega arith) (omega arith)
-    ∙ pasted_whole a.table.now pair_table (omega arith)
+    ∙ pasted_whole a.table.now pair_words (omega arith)

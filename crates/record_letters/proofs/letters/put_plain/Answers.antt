@@ -51,7 +51,7 @@ written c r letters same e =
 pub put_placed-requires : goal.put_placed-requires
 put_placed-requires c =
     (
-      placed (goal.at.put_placed-requires c).Start _ c.«record».given.1,
+      placed (goal.at.put_placed-requires c).Start _ c.in-Perfect.is,
       omega (arith, c.requires.1),
       c.requires.2,
       c.requires.3,
@@ -108,8 +108,8 @@ returns-in-Perfect c =
     c.put_placed.ensures
     ∙ written (goal.at.returns-in-Perfect c).Start _ _
     (plain_perfect a.section.now a.reference.now a.size a.layout
-    c.«record».given.0.0)
-    c.«record».given.1
+    c.in-Perfect.placement)
+    c.in-Perfect.is
 
 pub returns-in-Global : goal.returns-in-Global
 returns-in-Global c =
