@@ -1,19 +1,11 @@
 -- `reads::groups::bits_of` meets its contract: one shift serves the four bytes. Assumes nothing.
 use Prim.Native.Nat.{◌%◌}
 use native.Mathlib.Omega.{arith}
-use borrow.Author.Rules.{rules}
 use Rattle.reads.specs.Cursor.{flags_of, bits_at}
 use Rattle.reads.proofs.GroupByteLaws.{shifted-bit, shifted-low}
-use Rattle.reads.proofs.groups.bits_of.Statement.{statement}
-use Rattle.reads.proofs.groups.bits_of.Tie as tie
+use Rattle.reads.proofs.groups.bits_of.Goals as goal
 
-sub-shifted : tie.Need-overflow-sub-shifted
-sub-shifted c = search rules
-
-shr-shifted : tie.Need-overflow-shr-shifted
-shr-shifted c = search rules
-
-returns : tie.Need-returns
+pub returns : goal.returns
 unfolding flags_of bits_at
 returns c =
     let group = c.args.group in
@@ -23,6 +15,3 @@ returns c =
     let n = shifted-bit group 65536 k (omega arith) in
     let step = shifted-bit group 16777216 k (omega arith) in
     λ t. record { perfect = low t; forward = forward t; with_n = n t; step = step t }
-
-pub bits-of-spec : {M : Type 1} → statement M
-bits-of-spec = tie.close (tie.spec sub-shifted shr-shifted returns)
