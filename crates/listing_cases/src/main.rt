@@ -5,6 +5,7 @@
 
 use lines::put_text;
 use std::io;
+use std::rt::Files;
 
 // The names of cases are shorter.
 const NAME_ROOM: usize = 64;
@@ -13,7 +14,7 @@ const NAME_ROOM: usize = 64;
 const PATH_ROOM: usize = 4_096;
 
 // The listing of a case, under its name.
-fn list_case(rt: &HostRuntime, name: &[u8]) -> io::Result<()> {
+fn list_case<R: Files + Print + Eprint>(rt: &R, name: &[u8]) -> io::Result<()> {
     if NAME_ROOM < name.len() {
         return Ok(());
     }
@@ -31,7 +32,7 @@ fn list_case(rt: &HostRuntime, name: &[u8]) -> io::Result<()> {
 }
 
 // The specification's example, and blocks with and without a refusal.
-fn list_blocks(rt: &HostRuntime) -> io::Result<()> {
+fn list_blocks<R: Files + Print + Eprint>(rt: &R) -> io::Result<()> {
     list_case(rt, b"example")?;
     list_case(rt, b"empty")?;
     list_case(rt, b"no_reads")?;
@@ -41,7 +42,7 @@ fn list_blocks(rt: &HostRuntime) -> io::Result<()> {
 }
 
 // A file that ends in a block, and a reference of no bases.
-fn list_rests(rt: &HostRuntime) -> io::Result<()> {
+fn list_rests<R: Files + Print + Eprint>(rt: &R) -> io::Result<()> {
     list_case(rt, b"rest_of_a_block")?;
     list_case(rt, b"cut_block")?;
     list_case(rt, b"no_bases")?;
@@ -49,7 +50,7 @@ fn list_rests(rt: &HostRuntime) -> io::Result<()> {
 }
 
 // Reference files that get 1, and the largest that does not.
-fn list_references(rt: &HostRuntime) -> io::Result<()> {
+fn list_references<R: Files + Print + Eprint>(rt: &R) -> io::Result<()> {
     list_case(rt, b"reference_short")?;
     list_case(rt, b"reference_cut")?;
     list_case(rt, b"reference_cut_example")?;
@@ -58,7 +59,7 @@ fn list_references(rt: &HostRuntime) -> io::Result<()> {
 }
 
 // As much as fits the window and what is lent, and one more; and reads at the top.
-fn list_limits(rt: &HostRuntime) -> io::Result<()> {
+fn list_limits<R: Files + Print + Eprint>(rt: &R) -> io::Result<()> {
     list_case(rt, b"window_full")?;
     list_case(rt, b"window_overrun")?;
     list_case(rt, b"buffers_full")?;
