@@ -19,6 +19,7 @@ DECLARED = re.compile(
     r"^(?P<indent>\s*)(?:(?:unfoldable|abbrev|pub|pattern|axiom)\s+)*(?:record\s+|data\s+)?"
     r"(?P<name>[A-Za-zα-ωℓ_][\w'′]*(?:-[\w'′]+)*)(?:\s*\{[^}]*\})*(?:\s*\([^)]*\))*\s*:(?:\s|$)"
 )
+LITERAL = re.compile(r"""(b?'(?:\\.|[^'\\\n])'(?!\w)|b?"(?:\\.|[^"\\])*")""")
 CAMEL = re.compile(r"[a-z0-9][A-Z]")
 KIT = "/opt/rattle/rattle"
 KITS = ("mathlib", "native", "lib", "Prim", "borrow")
@@ -159,7 +160,10 @@ def main():
                 text = re.sub(
                     r"(?<![\w.:'′-])(" + "|".join(sorted(LEMMAS)) + r")(?![\w'′-]| =)", r"\1_lem", text
                 )
-            new = TOKEN.sub(lambda t: turn.get(t.group(), t.group()), text)
+            parts = LITERAL.split(text) if path.endswith(".rt") else [text]
+            for i in range(0, len(parts), 2):
+                parts[i] = TOKEN.sub(lambda t: turn.get(t.group(), t.group()), parts[i])
+            new = "".join(parts)
         if new != before:
             with open(path, "w", encoding="utf-8") as f:
                 f.write(new)

@@ -93,7 +93,7 @@ fn run_truncated() {
     run_input(b"8 121 bytes", 121);
     run_input(b"8 152 bytes", 152);
     run_field(b"8 l_header 122", L_HEADER_AT, 122);
-    run_field(b"8 l_dna 31", L_DNA_AT, 31);
+    run_field(b"8 l_DNA 31", L_DNA_AT, 31);
     run_field(b"8 l_m3 4294967295", L_M3_AT, 0xffff_ffff);
 }
 

@@ -48,14 +48,14 @@ fn letters_with(place: usize) -> [u8; READ_LENGTH]
     if READ_LENGTH <= place {
         return letters;
     }
-    letters[place] = b'c';
+    letters[place] = b'C';
     letters
 }
 
 fn letters_a() -> [u8; READ_LENGTH]
     ensures { 2_000 ≡ length result }
 {
-    [b'a'; READ_LENGTH]
+    [b'A'; READ_LENGTH]
 }
 
 fn bases_a() -> [u8; REFERENCE_SIZE] {

@@ -76,7 +76,7 @@ fn run_truncated() {
     run_input(b"121 bytes", 121);
     run_input(b"212 bytes", 212);
     run_field(b"l_header 122", L_HEADER_AT, 122);
-    run_field(b"l_dna 87", L_DNA_AT, 87);
+    run_field(b"l_DNA 87", L_DNA_AT, 87);
     run_field(b"l_m3 4294967295", L_M3_AT, 0xffff_ffff);
 }
 

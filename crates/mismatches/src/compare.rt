@@ -186,7 +186,7 @@ fn differs_at(
         leftmost aligned place }
 {
     let letter = letters[start + place];
-    if letter == b'n' {
+    if letter == b'N' {
         return false;
     }
     letter != letter_of_code(expected_code(reference, forward, leftmost, aligned, place))

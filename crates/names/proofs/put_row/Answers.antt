@@ -36,13 +36,14 @@ put_token-at-requires c =
     let room : l.at + length (token_at s a.first there) ≤ length l.names =
     pasting_room l.invariant.4 (token_at s a.first there) (name_from s a.first a.places.now
     a.values.now a.columns (l.k + 1))
-    (name_split s a.first a.places.now a.values.now a.columns l.k more) in (
-      (omega arith, omega arith, omega arith),
-      (
+    (name_split s a.first a.places.now a.values.now a.columns l.k more) in
+    record {
+      k_in_bounds = (omega arith, omega arith, omega arith);
+      k_value = (
         ap (token_invalid s a.first) same ∙ token_right s a.first a.places.now a.values.now a.columns c.requires.columns_value l.k more,
         omega (arith, ap (λ (u : Cursor). length (token_at s a.first u)) same),
-      ),
-    )
+      );
+    }
 
 pub loop-k-preserved : goal.loop-k-preserved
 loop-k-preserved c =

@@ -58,10 +58,12 @@ put_row-at-requires c =
     let room : l.at + length (flatten (row_at s (eqb l.i 0) cursors)) ≤ length l.names =
     pasting_room l.invariant.7 (flatten (row_at s (eqb l.i 0) cursors)) _
     (bytes_split s a.reads l.i cursors (map (cursor_after s (eqb l.i 0)) cursors) (omega
-    arith) refl) in (
-      fits-other _ _ c.requires.table_fits (omega arith) (omega arith),
-      (next.0, room),
-    )
+    arith) refl) in
+    record {
+      table_fits = fits-other _ _ c.requires.table_fits (omega arith) (omega arith);
+      columns_value = next.0;
+      columns_in_bounds = room;
+    }
 
 pub overflow_cast-ends : goal.overflow_cast-ends
 overflow_cast-ends c =

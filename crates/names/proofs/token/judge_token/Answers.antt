@@ -6,7 +6,6 @@ use Prim.Native.Nat.{ℕ, ◌≤◌, ◌<◌}
 use native.Mathlib.Omega.{arith}
 use native.Mathlib.Nat.{zero-add}
 use lib.ListN.{length, get_or, drop}
-use borrow.Author.Tests.{not-true, not-false}
 use Rattle.base.specs.Lists.{index_of}
 use Rattle.base.specs.Decimal.{decimal}
 use Rattle.tokens.specs.ColumnsAt.{Cursor, number_at}
@@ -54,7 +53,7 @@ returns-then-not-digits c =
     let a = c.args in
     let s : List ℕ = a.section.now in
     let cursor : Cursor = cursor_of s a.places.now a.values.now a.k in (
-      sym (ap (λ (d : Bool). token_size s a.first d cursor) (not-true a.digits c.if-not-digits.true)
+      sym (ap (λ (d : Bool). token_size s a.first d cursor) c.if-not-digits.true
           ∙ number-other s a.first cursor c.if-kind-eq-STRINGS.false),
       λ h. absurd (omega arith),
     )
@@ -70,7 +69,7 @@ returns-then-number-gt-MAX_NUMBER c =
       arith,
       c.number_at-number.ensures,
     ) in (
-      sym (ap (λ (d : Bool). token_size s a.first d cursor) (not-false a.digits c.if-not-digits.false) ∙ number-token s a.first cursor c.if-kind-eq-STRINGS.false
+      sym (ap (λ (d : Bool). token_size s a.first d cursor) c.if-not-digits.false ∙ number-token s a.first cursor c.if-kind-eq-STRINGS.false
           ∙ ap (λ (t : Bool). cond t 0 (length (decimal (number_at s a.first cursor))))
           (number_refused
           s a.first cursor big)),
@@ -106,7 +105,7 @@ returns c =
     let same : number ≡ number_at s a.first cursor = is ∙ sym found.1 in (
       c.decimal_length.ensures
           ∙ ap (λ (n : ℕ). length (decimal n)) same
-          ∙ sym (ap (λ (d : Bool). token_size s a.first d cursor) (not-false a.digits c.if-not-digits.false) ∙ number-token s a.first cursor c.if-kind-eq-STRINGS.false
+          ∙ sym (ap (λ (d : Bool). token_size s a.first d cursor) c.if-not-digits.false ∙ number-token s a.first cursor c.if-kind-eq-STRINGS.false
           ∙ ap (λ (t : Bool). cond t 0 (length (decimal (number_at s a.first cursor)))) found.0),
       λ h. moved_number s a.places.now a.values.now a.first a.k (omega arith) c.number_width.result number (omega arith) c.if-kind-eq-STRINGS.false
           c.number_width.ensures.0 same,
