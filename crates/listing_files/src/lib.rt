@@ -28,7 +28,8 @@ const REFERENCE_ROOM: usize = 32_769;
 // Two blocks of the largest size.
 const BUFFER_ROOM: usize = 65_536;
 
-// Lists a file of blocks under a reference file. A path is UTF-8.
+// Lists a file of blocks under a reference file. A path that is not UTF-8 is one that cannot be
+// opened.
 pub fn list_files<R: Files + Print + Eprint>(rt: &R, reference: &[u8], blocks: &[u8]) {
     let mut room = reference_room();
     let size = match read_file(rt, reference, &mut room) {
