@@ -11,9 +11,9 @@ use Rattle.record_letters.specs.Laid.{local_leftmost, LocalExact, EntriesLaid, P
 use Rattle.record_letters.proofs.CountLaws.{differences_of, no_perfect, no_raw, no_raw4}
 use Rattle.record_letters.proofs.CountLaws.{of_global, of_local}
 use Rattle.record_letters.proofs.counts.differences.Goals as goal
-use Rattle.record_letters.proofs.counts.differences.Goals.{After-size8, In-Global-2, In-Local-2}
+use Rattle.record_letters.proofs.counts.differences.Goals.{After-size8, In-Global, In-Local}
 
-global : (c : In-Global-2)
+global : (c : In-Global)
     → EntriesLaid c.args.section.now
     c.args.reference.now
     c.args.layout
@@ -25,7 +25,7 @@ global c =
     (λ (r : Record). PlacedIn a.section.now a.reference.now a.size r a.layout)
     c.in-Global.is c.requires.placed
 
-local : (c : In-Local-2)
+local : (c : In-Local)
     → PlacedIn c.args.section.now
     c.args.reference.now
     c.args.size (kinds.Local c.in-Local.placement)
@@ -50,24 +50,24 @@ aligned_differences-requires c =
       subst
           (λ (i : ℕ).
           EntriesLaid a.section.now a.reference.now a.layout i a.size)
-          (sym c.size64-leftmost.ensures.0) (global (goal.at.aligned_differences-requires c).In-Global-2),
+          (sym c.size64-leftmost.ensures.0) (global (goal.at.aligned_differences-requires c).In-Global),
       omega arith,
     )
 
 pub overflow_sub-aligned : goal.overflow_sub-aligned
 overflow_sub-aligned c =
-    omega (arith, clips (goal.at.overflow_sub-aligned c).After-size8, (local (goal.at.overflow_sub-aligned c).In-Local-2).0)
+    omega (arith, clips (goal.at.overflow_sub-aligned c).After-size8, (local (goal.at.overflow_sub-aligned c).In-Local).0)
 
 pub local_leftmost-leftmost-requires : goal.local_leftmost-leftmost-requires
 local_leftmost-leftmost-requires c =
     let a = c.args in
     let placement : Placement = c.in-Local.placement in
     record {
-      local_exact = subst (λ (n : ℕ). LocalExact placement (a.size - n)) (clips (goal.at.local_leftmost-leftmost-requires c).After-size8) (local (goal.at.local_leftmost-leftmost-requires c).In-Local-2).1;
+      local_exact = subst (λ (n : ℕ). LocalExact placement (a.size - n)) (clips (goal.at.local_leftmost-leftmost-requires c).After-size8) (local (goal.at.local_leftmost-leftmost-requires c).In-Local).1;
       aligned_bound = subst
           (λ (n : ℕ).
           local_leftmost placement (a.size - n) + (a.size - n) ≤ max_reference_bases)
-          (clips (goal.at.local_leftmost-leftmost-requires c).After-size8) (local (goal.at.local_leftmost-leftmost-requires c).In-Local-2).2.stretch.small;
+          (clips (goal.at.local_leftmost-leftmost-requires c).After-size8) (local (goal.at.local_leftmost-leftmost-requires c).In-Local).2.stretch.small;
     }
 
 pub aligned_differences-requires-in-Local : goal.aligned_differences-requires-in-Local
@@ -84,8 +84,8 @@ aligned_differences-requires-in-Local c =
           (λ (n : ℕ).
           EntriesLaid a.section.now a.reference.now a.layout
           (local_leftmost placement (a.size - n)) (a.size - n))
-          (clips (goal.at.aligned_differences-requires-in-Local c).After-size8) (local (goal.at.aligned_differences-requires-in-Local c).In-Local-2).2),
-      omega (arith, clips (goal.at.aligned_differences-requires-in-Local c).After-size8, (local (goal.at.aligned_differences-requires-in-Local c).In-Local-2).0),
+          (clips (goal.at.aligned_differences-requires-in-Local c).After-size8) (local (goal.at.aligned_differences-requires-in-Local c).In-Local).2),
+      omega (arith, clips (goal.at.aligned_differences-requires-in-Local c).After-size8, (local (goal.at.aligned_differences-requires-in-Local c).In-Local).0),
     )
 
 pub returns-in-Perfect : goal.returns-in-Perfect
