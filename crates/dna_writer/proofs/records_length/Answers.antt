@@ -65,11 +65,11 @@ pub overflow_add-sum : goal.overflow_add-sum
 overflow_add-sum c =
     let l = c.loop-i in
     let fine = well (goal.at.overflow_add-sum c).Start in
-    omega (arith, l.invariant.1, c.loop-i-test.taken, fine.few, c.record_length-sum.ensures.1)
+    omega (arith, l.invariant.1, c.loop-i-test.true, fine.few, c.record_length-sum.ensures.1)
 
 pub overflow_add-i : goal.overflow_add-i
 overflow_add-i c =
-    omega (arith, (well (goal.at.overflow_add-i c).Start).few, c.loop-i-test.taken)
+    omega (arith, (well (goal.at.overflow_add-i c).Start).few, c.loop-i-test.true)
 
 pub loop-i-preserved : goal.loop-i-preserved
 loop-i-preserved c =

@@ -47,7 +47,7 @@ short c = (step_ranged _ _ _ _ (sym (long c))).1
 -- Where the record stands, and the bytes of its group.
 grouped : (c : In-Found-group)
     → groups.Found c.in-Found-group.at c.in-Found-group.bytes
-    ≡ (let a = (start c).args in
+    ≡ (let a = c.args in
     group_step a.dna.now a.ns.now a.reads a.cursor.read a.cursor.at
     a.cursor.group)
 grouped c =
@@ -56,19 +56,19 @@ grouped c =
 -- What is known of the read.
 abbrev context : (c : In-Found-group) → ReadContext
 context c =
-    let a = (start c).args in
+    let a = c.args in
     context_of a.bases (flags_of c.in-Found-group.bytes) (a.cursor.read % 8)
     a.cursor.position c.size32-size.result
 
 -- The bits that it was decoded with.
 context-is : (c : After-bits_of-bits)
-    → (let a = (start c).args in
+    → (let a = c.args in
     context_from c.bits_of-bits.result c.size32-size.result a.cursor.position
     a.bases)
     ≡ context (goal.at.After-bits_of-bits c).In-Found-group
 unfolding context_of bits_at
 context-is c =
-    let a = (start c).args in
+    let a = c.args in
     ap
     (λ (b : Bits).
     context_from b c.size32-size.result a.cursor.position a.bases)
@@ -77,13 +77,13 @@ context-is c =
 -- What decoding answered.
 decoded : (c : After-decode_record-decoded)
     → c.decode_record-decoded.result
-    ≡ decoded_at (context (goal.at.After-decode_record-decoded c).In-Found-group) (start c).args.dna.now
+    ≡ decoded_at (context (goal.at.After-decode_record-decoded c).In-Found-group) c.args.dna.now
     c.in-Found-group.at
 decoded c =
     c.decode_record-decoded.ensures
     ∙ ap
     (λ (x : ReadContext).
-    decoded_at x (start c).args.dna.now
+    decoded_at x c.args.dna.now
     c.in-Found-group.at)
     (context-is (goal.at.After-decode_record-decoded c).After-bits_of-bits)
 
@@ -105,8 +105,7 @@ decode_record-decoded-requires c =
 
 pub overflow_add-result : goal.overflow_add-result
 overflow_add-result c =
-    let pre = (start c).requires in
-    record { fits = omega (arith, pre.0.few, pre.2) }
+    record { fits = omega (arith, c.requires.0.few, c.requires.2) }
 
 pub returns-in-Refused : goal.returns-in-Refused
 returns-in-Refused c =

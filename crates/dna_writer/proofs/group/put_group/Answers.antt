@@ -4,8 +4,7 @@ use native.Mathlib.Nat.{add-zero, mod-eq_of_lt}
 use native.Mathlib.Omega.{arith}
 use mathlib.Core.List.{List, ◌∷◌}
 use lib.ListN.{length, get_or, take, length-take}
-use Rattle.base.specs.Paste.{pasted}
-use Rattle.base.proofs.PastingLaws.{Pasting, pasting-start}
+use Rattle.base.proofs.PastingLaws.{pasting-start}
 use Rattle.format.specs.RuleRecord.{Written}
 use Rattle.format.specs.EncodeAnswer.{EncodeInput}
 use Rattle.dna_writer.specs.Lent.{lent_reads}
@@ -20,18 +19,6 @@ use Rattle.dna_writer.proofs.GroupSteps.{gathered_bits, bits_none, bits_turn, bi
 use Rattle.dna_writer.proofs.GroupSteps.{bits_small, bits_bytes, group_room, group_written}
 use Rattle.dna_writer.proofs.group.put_group.Goals as goal
 use Rattle.dna_writer.proofs.group.put_group.Goals.{Start}
-
-abbrev records_of : (bases : ℕ) (reference letters ends positions strands lefts rights : List ℕ)
-    (previous i : ℕ) → List Written
-records_of bases reference letters ends positions strands lefts rights previous i =
-    records_from bases reference (lent_reads letters ends positions strands lefts rights) previous i
-
--- Writing the group's records from record k on makes the buffer what it is to be.
-abbrev RecordsLeft : (records : List Written) (old : List ℕ) (at : ℕ) (out : List ℕ) (place k : ℕ)
-    → Type 0
-RecordsLeft records old at out place k =
-    Pasting (pasted old (at + 4) (group_left records 0)) (at + 4 + length (group_left records 0)) out
-    place (group_left records k)
 
 -- What is lent has no fault.
 abbrev input : (c : Start) → EncodeInput

@@ -8,7 +8,7 @@ unfolding counts_in
 returns-then-count c =
     let read = c.args.read in
     rw c.if-count.true
-    (c.Counts-of.ensures ∙ ap (counts_as read) c.differences.ensures)
+    (c.counts_of.ensures ∙ ap (counts_as read) c.differences.ensures)
 
 pub returns : goal.returns
 unfolding counts_in

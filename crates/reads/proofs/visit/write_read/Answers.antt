@@ -10,7 +10,7 @@ unfolding counts_in letters_in
 returns c =
     let a = c.args in
     let read = a.read in (
-      c.Counts-of.ensures ∙ ap (counts_as read) c.put_read-changed.ensures.1,
+      c.counts_of.ensures ∙ ap (counts_as read) c.put_read-changed.ensures.1,
       c.put_read-changed.ensures.0,
       set_pasted a.ends.now a.index (a.from + read.length) c.requires.2.end_fits,
     )
