@@ -31,13 +31,13 @@ given c =
 typed : (c : After-slice_known-1) → LentFits (unstamped (given c))
 typed c =
     record {
-      c = record { each = λ k h. omega (arith, c.type_inv.ends k) };
-      c = record { each = λ k h. omega (arith, c.type_inv.names k) };
-      c = record { each = λ k h. omega (arith, c.type_inv.name_ends k) };
-      c = record { each = λ k h. omega (arith, c.type_inv.positions k) };
-      c = record { each = λ k h. omega (arith, c.type_inv.strands k) };
-      c = record { each = λ k h. omega (arith, c.type_inv.lefts k) };
-      c = record { each = λ k h. omega (arith, c.type_inv.rights k) };
+      ends = record { each = λ k h. omega (arith, c.type_inv.ends k) };
+      names = record { each = λ k h. omega (arith, c.type_inv.names k) };
+      name_ends = record { each = λ k h. omega (arith, c.type_inv.name_ends k) };
+      positions = record { each = λ k h. omega (arith, c.type_inv.positions k) };
+      strands = record { each = λ k h. omega (arith, c.type_inv.strands k) };
+      lefts = record { each = λ k h. omega (arith, c.type_inv.lefts k) };
+      rights = record { each = λ k h. omega (arith, c.type_inv.rights k) };
       id = omega arith;
       time = omega arith;
     }
@@ -169,10 +169,9 @@ put_section-requires c =
 pub put_dna-requires : goal.put_dna-requires
 unfolding group_count
 put_dna-requires c =
-    let tables = c in
     let f = fits (goal.at.put_dna-requires c).After-slice_known-1 in
     record {
-      rights_value = (c.requires.rights_value, tables.before.word-table.ensures, tables.word-table2.ensures);
+      rights_value = (c.requires.rights_value, c.word_table-forward.ensures, c.word_table-reverse.ensures);
       rights_bound = (
         omega (arith, c.dna_length-dna.ensures),
         omega (arith, f.ns_are, c.if-out-end.false),
