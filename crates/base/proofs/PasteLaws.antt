@@ -9,7 +9,6 @@ use lib.ListN.{take-append-drop}
 use lib.Seq.{length-take-le, take_at, drop_at, drop-length, drop-drop, get_or-append-add, get_or-take}
 use lib.Seq.{get_or-drop, paste, sets, sets-eq, ext_get_or}
 use Rattle.base.specs.Lists.{build}
-use Rattle.base.specs.Place.{At}
 use Rattle.base.specs.Paste.{pasted}
 use Rattle.base.proofs.ListLaws.{by_order, length-build, build-snoc}
 

@@ -12,7 +12,6 @@ use Rattle.base.specs.Numbers.{le}
 use Rattle.cases.specs.CaseFile.{file_header_length, file_magic, count_answer, case_header_length}
 use Rattle.cases.specs.CaseFile.{case_fields, case_size, case_answer}
 use Rattle.cases.specs.declared.case_file.CaseHeader.{CaseHeader}
-use Rattle.cases.specs.declared.case_file.CaseRead.{CaseRead}
 use Rattle.cases.specs.declared.case_file.CaseRead.TheVariants as case
 use Rattle.cases.specs.declared.case_file.CountRead.TheVariants as count
 

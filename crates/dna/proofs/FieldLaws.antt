@@ -7,9 +7,9 @@ use mathlib.Core.Bool.{false, ◌||◌}
 use mathlib.Core.List.{List, [], ◌∷◌, ◌++◌, map, flat_map}
 use lib.ListN.{length, get_or, length-append, length-map, get_or-map, get_or-append}
 use lib.Seq.{ext_get_or, get_or-append-add}
-use lib.Dec.{ltb, leb}
+use lib.Dec.{ltb}
 use lib.Arith.{digits_div, digits_mod}
-use borrow.Author.Tests.{ltb-false, leb-false, le-ltb, lt-leb}
+use borrow.Author.Tests.{ltb-false, le-ltb}
 use Rattle.base.specs.Lists.{any, Below, AllBytes, All}
 use Rattle.base.specs.Packed.{packed_length, pack, symbols_at}
 use Rattle.base.specs.Place.{At}

@@ -20,7 +20,7 @@ use Rattle.base.proofs.NumberLaws.{length-le_bytes, le_below, le_bytes-le}
 use Rattle.base.proofs.Tests.{or-neither, or_right, and_first}
 use Rattle.base.proofs.AnswerLaws.{found-same, checked-found, and_then-parts, cond-parts, cond_yes}
 use Rattle.base.proofs.AnswerLaws.{cond_no}
-use Rattle.dna.specs.Record.{ReadContext, Entry, PackedCodes, RecordFields, perfect, global}
+use Rattle.dna.specs.Record.{ReadContext, Entry, PackedCodes, RecordFields, global}
 use Rattle.dna.specs.Record.{local, raw, raw4, StoredRecord, field_width, entry_byte}
 use Rattle.dna.specs.Record.{packed_bytes, flag_byte_of, fields_bytes, has_n_list, n_list_bytes}
 use Rattle.dna.specs.Record.{record_bytes, PackedFits, RawFits, FieldsFit, NListFits}

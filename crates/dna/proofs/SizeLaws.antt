@@ -1,15 +1,12 @@
 -- A size section is a list of bytes: what is stored fits its form. Assumes nothing.
-use Prim.Native.Nat.{ℕ, ◌<◌}
-use mathlib.Core.Bool.{Bool, false}
-use mathlib.Core.List.{List, [], ◌∷◌, map, flat_map}
-use lib.ListN.{get_or}
+use Prim.Native.Nat.{ℕ}
+use mathlib.Core.List.{List, [], ◌∷◌, flat_map}
 use Rattle.base.specs.Lists.{AllBytes, All}
-use Rattle.base.specs.Groups.{in_groups, flag_byte}
+use Rattle.base.specs.Groups.{in_groups}
 use Rattle.base.proofs.ListLaws.{below-nil, below-cons, below-append}
 use Rattle.base.proofs.GroupLaws.{all-in_groups}
 use Rattle.base.proofs.FlagByteLaws.{flag_byte-byte}
 use Rattle.base.proofs.NumberLaws.{le_bytes-bytes}
-use Rattle.base.proofs.PackedLaws.{byte_of-below}
 use Rattle.dna.specs.Varint16.{varint16_words, varint16_bytes}
 use Rattle.dna.specs.Sizes.{StoredSize, same, in_byte, in_words, stored_bytes, size_group_bytes}
 use Rattle.dna.specs.Sizes.{size_section_bytes, StoredFits}

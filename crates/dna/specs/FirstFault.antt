@@ -2,7 +2,7 @@
 -- group's bytes, in a record and in its N list), without a walk: what stands before it meets the
 -- rules, what begins there does not, and its number is the first that fits. That the walk refuses
 -- so and so only is proofs/FirstFault.antt and proofs/RefusedExactly.antt.
-use Rattle.std.specs.Prelude.{ℕ, ◌+◌, ◌*◌, ◌≤◌, ◌<◌, ◌≡◌, true, false, cond, not, ◌&&◌, ◌↔◌, ◌⊎◌, length, get_or, take, drop, replicate}
+use Rattle.std.specs.Prelude.{ℕ, ◌+◌, ◌*◌, ◌<◌, ◌≡◌, true, false, cond, not, ◌&&◌, ◌↔◌, ◌⊎◌, length, get_or, take, drop, replicate}
 use mathlib.Core.List.{List, [], ◌∷◌, ◌++◌, flat_map}
 use Rattle.base.specs.Lists.{ends_before, total, All, Begins}
 use Rattle.base.specs.Groups.{in_groups}

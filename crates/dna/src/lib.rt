@@ -3,6 +3,7 @@
 // of the calls.
 
 #![tactic(auto)]
+
 pub mod refusals;
 
 // The strand that a read was aligned to.

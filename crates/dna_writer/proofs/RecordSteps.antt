@@ -30,7 +30,11 @@ unfolding written_from
 length_written bases reference previous [] candidates same = refl
 length_written bases reference previous (codes ∷ reads) [] same = absurd (omega (arith, same))
 length_written bases reference previous (codes ∷ reads) (candidate ∷ candidates) same =
-    ap suc (length_written bases reference _ reads candidates (omega (arith, same)))
+    ap suc
+    (length_written bases reference
+    (position_after (written bases reference previous codes candidate).context
+    (written bases reference previous codes candidate).stored.fields)
+    reads candidates (omega (arith, same)))
 
 module _ (bases : ℕ) (reference : List ℕ) (input : EncodeInput) where
   abbrev records : (previous i : ℕ) → List Written

@@ -1,6 +1,6 @@
 -- The counts of a block and of a file are the totals over their reads. Assumes nothing.
 use mathlib.Core.Path.{◌≡◌, refl, ap, ap₂, ◌∙◌}
-use Prim.Native.Nat.{ℕ, ◌+◌, ◌^◌}
+use Prim.Native.Nat.{ℕ, ◌+◌}
 use mathlib.Core.List.{List, [], ◌∷◌, map, flat_map}
 use Rattle.base.specs.Lists.{total}
 use Rattle.dna.specs.Counts.{plus, sum_counts}

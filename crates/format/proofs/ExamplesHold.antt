@@ -1,6 +1,6 @@
 -- The worked examples hold, by computation. Assumes nothing.
 use mathlib.Core.Path.{refl}
-use mathlib.Core.List.{[], ◌∷◌, flatten}
+use mathlib.Core.List.{flatten}
 use native.Mathlib.Omega.{arith}
 use Rattle.base.specs.Lists.{total, keep, places_where, steps_from}
 use Rattle.base.specs.Numbers.{signed, non_negative}

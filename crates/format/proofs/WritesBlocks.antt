@@ -79,9 +79,11 @@ all-fillers : (bases : ℕ) (reference : List ℕ) (previous : ℕ) (codes : Lis
 unfolding written_from
 all-fillers bases reference previous [] candidates = tt
 all-fillers bases reference previous (read ∷ codes) [] = tt
-all-fillers bases reference previous (read ∷ codes) (candidate ∷ candidates) =
-    (written-fillers bases reference previous read candidate, all-fillers bases reference (position_after (written bases reference previous read candidate).context
-    (written bases reference previous read candidate).stored.fields) codes candidates)
+all-fillers bases reference previous (read ∷ codes) (candidate ∷ candidates) = (
+  written-fillers bases reference previous read candidate,
+  all-fillers bases reference (position_after (written bases reference previous read candidate).context
+      (written bases reference previous read candidate).stored.fields) codes candidates,
+)
 
 rule-fillers : (bases : ℕ) (reference : List ℕ) (codes : List (List ℕ)) (candidates : List Candidate) → WrittenReads bases codes candidates
     → All (λ read. FillersHold reference read.context read.piece.stored)

@@ -45,7 +45,7 @@ all_meet bases reference previous (codes ∷ reads) [] small n below fits = absu
 all_meet bases reference previous (codes ∷ reads) (candidate ∷ candidates) small n below fits = (
   written-meets bases reference previous codes candidate small below.0 fits.0,
   all_meet bases reference (position_after (written bases reference previous codes candidate).context
-    (written bases reference previous codes candidate).stored.fields) reads candidates small (omega arith) below.1 fits.1,
+      (written bases reference previous codes candidate).stored.fields) reads candidates small (omega arith) below.1 fits.1,
 )
 
 pub meet-count : (reference : List ℕ) (reads : List (List ℕ)) (ws : List Written) → AllMeet reference reads ws → length ws ≡ length reads

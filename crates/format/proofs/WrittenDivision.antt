@@ -1,6 +1,6 @@
 -- The division that the fixed rule writes meets the rules, and its reads are the rule's records. Assumes nothing.
 use mathlib.Core.Path.{◌≡◌, refl, sym, ap, ap₂, ◌∙◌, subst}
-use Prim.Native.Nat.{ℕ, suc, ◌+◌, ◌≤◌}
+use Prim.Native.Nat.{ℕ, suc, ◌≤◌}
 use mathlib.Core.Bool.{Bool, false}
 use mathlib.Core.List.{List, [], ◌∷◌, ◌++◌, map, flatten}
 use lib.ListN.{length, length-map}
@@ -54,9 +54,12 @@ unfolding written_from written
 threads-written bases reference previous [] candidates = tt
 threads-written bases reference previous (codes ∷ reads) [] = tt
 threads-written bases reference previous (codes ∷ reads) (candidate ∷ candidates) =
-    let same = as-bases (choice_for bases reference codes candidate) bases reference previous codes candidate in
-    (same.0, same.1, threads-written bases reference (position_after (written bases reference previous codes candidate).context
-    (written bases reference previous codes candidate).stored.fields) reads candidates)
+    let same = as-bases (choice_for bases reference codes candidate) bases reference previous codes candidate in (
+      same.0,
+      same.1,
+      threads-written bases reference (position_after (written bases reference previous codes candidate).context
+          (written bases reference previous codes candidate).stored.fields) reads candidates,
+    )
 
 -- The position after some records.
 unfoldable thread_end : (previous : ℕ) (ws : List Written) → ℕ

@@ -25,7 +25,7 @@ use Rattle.base.proofs.Tests.{absurd_test, and_both, neither_or, not-true}
 use Rattle.dna.specs.Reference.{letter_of_code}
 use Rattle.dna.specs.Record.{ReadContext, Entry, EntryFits, PackedFits, RecordFields, field_width}
 use Rattle.dna.specs.Record.{has_n_list, FieldsFit, NListFits, RecordFits}
-use Rattle.dna.specs.Alignment.{is_aligned, entries_of, aligned_length, n_positions, position}
+use Rattle.dna.specs.Alignment.{is_aligned, entries_of, aligned_length, n_positions}
 use Rattle.dna.specs.RecordFaults.{raw4_codes, padding_of, record_faults}
 use Rattle.dna.specs.Letters.{fields_cause, cause_at, packed_codes, code_of, record_letters}
 use Rattle.dna.proofs.ReferenceLaws.{strand_base-below}

@@ -2,6 +2,7 @@
 // code is what the public calls answer; specs/Answered.antt gives the paper's number and values for
 // each case. An index and a length are u64 in every answer.
 #![tactic(auto)]
+
 use dna::Counts;
 
 // The answer on one block, judged or decoded.

@@ -1,11 +1,9 @@
 -- A table of contents that is written: its three parts are its bytes. Assumes nothing.
 use mathlib.Core.Path.{◌≡◌, refl}
 use Prim.Native.Nat.{ℕ}
-use mathlib.Core.Bool.{cond}
 use mathlib.Core.List.{List, [], ◌∷◌, flatten}
-use lib.IntN.{pos}
-use lib.ListN.{length, get_or}
-use Rattle.base.specs.Lists.{build, total}
+use lib.ListN.{length}
+use Rattle.base.specs.Lists.{build}
 use Rattle.base.specs.Numbers.{le_bytes}
 use Rattle.format.specs.Header.{int32_bytes, header_bytes}
 use Rattle.format.specs.RuleBlock.{header_with}

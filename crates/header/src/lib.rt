@@ -3,6 +3,7 @@
 // cite specs/Header.antt, Sections.antt, HeaderFaults.antt, BlockAnswer.antt and RuleBlock.antt of
 // format.
 #![tactic(auto)]
+
 pub mod faults;
 pub mod fields;
 pub mod sections;

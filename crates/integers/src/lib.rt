@@ -2,6 +2,7 @@
 // The contracts cite specs/Numbers.antt and specs/Paste.antt of base; each `requires` says that the
 // bytes are there.
 #![tactic(auto)]
+
 ghost use Rattle.std.specs.Prelude.{◌≡◌, ◌+◌, ◌≤◌, ◌<◌, ◌^◌, length};
 ghost use Rattle.base.specs.Numbers.{le, le_bytes, int32, signed, non_negative};
 ghost use Rattle.base.specs.Paste.{pasted};

@@ -2,6 +2,7 @@
 // cite specs/Read.antt, and specs/Record.antt and specs/RuleRecord.antt of dna and format; each
 // `requires` says that the read lies in the letters and that there is room.
 #![tactic(auto)]
+
 ghost use Rattle.std.specs.Prelude.{◌≡◌, true, ◌+◌, ◌-◌, ◌*◌, ◌/◌, ◌≤◌, ◌<◌, length, get_or};
 ghost use Rattle.base.specs.Lists.{build, part, member};
 ghost use Rattle.base.specs.Packed.{byte_of, packed_length, pack};

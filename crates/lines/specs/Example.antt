@@ -20,10 +20,10 @@ forty_file = 40 ∷ (replicate 7 0 ++ forty_bases)
 -- the top (02, Ticket 4) the line says so.
 pub record ExampleRight : Type 0 where
   pub whole : listing sums_file listing_block
-      ≡ text "block 7 reads 1 letters 4 entries 1 differences 1 top 0\n_actt\nend blocks 1\n"
+      ≡ text "block 7 reads 1 letters 4 entries 1 differences 1 top 0\nACTT\nend blocks 1\n"
   pub empty : listing sums_file [] ≡ text "end blocks 0\n"
   pub left : listing sums_file (listing_block ++ (0x49 ∷ []))
-      ≡ text "block 7 reads 1 letters 4 entries 1 differences 1 top 0\n_actt\nrefused 2 1 0\n"
+      ≡ text "block 7 reads 1 letters 4 entries 1 differences 1 top 0\nACTT\nrefused 2 1 0\n"
   pub short : listing (replicate 7 0) [] ≡ text "refused 1 0 0\n"
   pub top : listing forty_file top_block
       ≡ text "block 5 reads 3 letters 120 entries 61 differences 57 top 1\n"

@@ -1,6 +1,7 @@
 // The lines of a listing, written into a lent buffer. The contracts cite specs/Lines.antt; every
 // `requires` asks for room.
 #![tactic(auto)]
+
 pub mod block_text;
 pub mod turns;
 

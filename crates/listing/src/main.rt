@@ -1,23 +1,31 @@
 // listing REFERENCE BLOCKS: prints the reads of a file of blocks, as 01's listing program does.
 #![tactic(auto)]
-use libc::STDERR_FILENO;
 
-fn main() {
-    if os::arg_count() != 3 {
-        io::write_all(STDERR_FILENO, b"usage: listing REFERENCE BLOCKS\n");
+use std::env::FillError;
+use std::rt::Env;
+
+// The bytes that a path may have.
+const PATH_ROOM: usize = 4_096;
+
+// Whether an argument stands at an index.
+fn has_arg(rt: &impl Env, index: usize) -> bool {
+    !matches!(rt.arg(index, &mut []), Err(FillError::NotPresent))
+}
+
+fn main(rt: HostRuntime) {
+    if !has_arg(&rt, 2) || has_arg(&rt, 3) {
+        let _ = eprintln!(rt; "usage: listing REFERENCE BLOCKS");
         return;
     }
-    let mut reference = io::buffer();
-    let reference_size = os::arg(1, &mut reference);
-    if os::errno() != 0 {
-        os::fail(b"listing: REFERENCE");
+    let mut reference = [0u8; PATH_ROOM];
+    let Ok(reference_size) = rt.arg(1, &mut reference) else {
+        let _ = eprintln!(rt; "listing: REFERENCE: File name too long");
         return;
-    }
-    let mut blocks = io::buffer();
-    let blocks_size = os::arg(2, &mut blocks);
-    if os::errno() != 0 {
-        os::fail(b"listing: BLOCKS");
+    };
+    let mut blocks = [0u8; PATH_ROOM];
+    let Ok(blocks_size) = rt.arg(2, &mut blocks) else {
+        let _ = eprintln!(rt; "listing: BLOCKS: File name too long");
         return;
-    }
-    listing_files::list_files(&reference[..reference_size], &blocks[..blocks_size]);
+    };
+    listing_files::list_files(&rt, &reference[..reference_size], &blocks[..blocks_size]);
 }

@@ -11,10 +11,12 @@ ghost use Rattle.lines.specs.Listing.{
 use crate::windows::{Window, next_window};
 use crate::{put_fault, put_text};
 use lines::turns::list_left;
+use std::io::Read;
 
 // Lists what is left of a file after `block` blocks. Gives how far the window moves; 0 where the
 // listing ends.
-fn list_next(
+fn list_next<R: Print + Eprint>(
+    rt: &R,
     bases: u64,
     reference: &[u8],
     left: &[u8],
@@ -36,7 +38,7 @@ fn list_next(
         bases, reference, left, block, letters, ends, names, name_ends, text,
     );
     let size = turn.size;
-    if put_text(&text[..size]) {
+    if put_text(rt, &text[..size]) {
         return turn.moved;
     }
     0
@@ -44,8 +46,9 @@ fn list_next(
 
 // Lists an opened file, of which so many bytes are read. Its blocks are counted in 64 bits, which
 // no file uses up.
-pub fn list_blocks(
-    fd: i32,
+pub fn list_blocks<R: Print + Eprint, F: Read>(
+    rt: &R,
+    file: &mut F,
     path: &[u8],
     bases: u64,
     reference: &[u8],
@@ -68,13 +71,16 @@ pub fn list_blocks(
     let mut end = filled;
     let mut block: u64 = 0;
     while block < u64::MAX {
-        let Window::At(from, to) = next_window(fd, buffer, at, end) else {
-            put_fault(path);
-            return;
+        let (from, to) = match next_window(file, buffer, at, end) {
+            Window::At(from, to) => (from, to),
+            Window::Failed(error) => {
+                put_fault(rt, path, error);
+                return;
+            }
         };
         let left = &buffer[from..to];
         let moved = list_next(
-            bases, reference, left, block, letters, ends, names, name_ends, text,
+            rt, bases, reference, left, block, letters, ends, names, name_ends, text,
         );
         if moved == 0 {
             return;

@@ -3,6 +3,7 @@
 // written. What cannot be opened, read or written is said on standard error, and then no line `end`
 // or `refused` is printed.
 #![tactic(auto)]
+
 mod all_blocks;
 pub mod windows;
 
@@ -16,59 +17,75 @@ use lines::put_refused_line;
 use lines::turns::{
     ENDS_LENT, LETTERS_LENT, NAME_BYTES_LENT, NAME_ENDS_LENT, TEXT_ROOM, reference_refused,
 };
+use std::io::{Error, ErrorKind, Read};
+use std::rt::Files;
+use std::{fs, io};
 use windows::{Filled, fill};
 
 // One byte more than a reference file may have, so that a longer one is noticed.
 const REFERENCE_ROOM: usize = 32_769;
 
-// Lists a file of blocks under a reference file.
-pub fn list_files(reference: &[u8], blocks: &[u8]) {
+// Two blocks of the largest size.
+const BUFFER_ROOM: usize = 65_536;
+
+// Lists a file of blocks under a reference file. A path that is not UTF-8 is one that cannot be
+// opened.
+pub fn list_files<R: Files + Print + Eprint>(rt: &R, reference: &[u8], blocks: &[u8]) {
     let mut room = reference_room();
-    let Filled::To(size) = read_file(reference, &mut room) else {
-        put_fault(reference);
-        return;
+    let size = match read_file(rt, reference, &mut room) {
+        Filled::To(size) => size,
+        Filled::Failed(error) => {
+            put_fault(rt, reference, error);
+            return;
+        }
     };
-    let fd = os::open_read(blocks);
-    if fd < 0 {
-        put_fault(blocks);
-        return;
+    match open_read(rt, blocks) {
+        Ok(mut file) => list_opened(rt, &mut file, blocks, &room[..size]),
+        Err(error) => put_fault(rt, blocks, error),
     }
-    list_opened(fd, blocks, &room[..size]);
-    libc::close(fd);
 }
 
 // Reads a file, or as much of it as there is room for.
-fn read_file(path: &[u8], room: &mut [u8]) -> Filled
+fn read_file<R: Files>(rt: &R, path: &[u8], room: &mut [u8]) -> Filled
     ensures { FilledIn result 0 (length room.old) }
 {
-    let fd = os::open_read(path);
-    if fd < 0 {
-        return Filled::Failed;
+    match open_read(rt, path) {
+        Ok(mut file) => fill(&mut file, room, 0),
+        Err(error) => Filled::Failed(error),
     }
-    let filled = fill(fd, room, 0);
-    libc::close(fd);
-    filled
+}
+
+// Opens a file for reading.
+fn open_read<R: Files>(rt: &R, path: &[u8]) -> io::Result<R::File> {
+    let Ok(path) = str::from_utf8(path) else {
+        return Err(Error::new(ErrorKind::InvalidInput, "the path is not UTF-8"));
+    };
+    fs::open(rt, path)
 }
 
 // Lists an opened file of blocks. It is read from before anything is printed.
-fn list_opened(fd: i32, path: &[u8], reference: &[u8]) {
-    let mut buffer = io::large_buffer();
+fn list_opened<R: Print + Eprint, F: Read>(rt: &R, file: &mut F, path: &[u8], reference: &[u8]) {
+    let mut buffer = block_room();
     let mut letters = letter_room();
     let mut ends = end_room();
     let mut names = name_room();
     let mut name_ends = name_end_room();
     let mut text = text_room();
-    let Filled::To(filled) = fill(fd, &mut buffer, 0) else {
-        put_fault(path);
-        return;
+    let filled = match fill(file, &mut buffer, 0) {
+        Filled::To(filled) => filled,
+        Filled::Failed(error) => {
+            put_fault(rt, path, error);
+            return;
+        }
     };
     if reference_refused(reference) {
         let size = put_refused_line(REFERENCE_SIZE_WRONG, 0, 0, &mut text, 0);
-        put_text(&text[..size]);
+        put_text(rt, &text[..size]);
         return;
     }
     list_blocks(
-        fd,
+        rt,
+        file,
         path,
         u64_at(reference, 0),
         &reference[8..],
@@ -83,6 +100,12 @@ fn list_opened(fd: i32, path: &[u8], reference: &[u8]) {
 }
 
 // ---- What is lent
+
+fn block_room() -> [u8; BUFFER_ROOM]
+    ensures { 65_536 ≡ length result }
+{
+    [0; BUFFER_ROOM]
+}
 
 fn reference_room() -> [u8; REFERENCE_ROOM]
     ensures { 32_769 ≡ length result }
@@ -123,16 +146,20 @@ fn text_room() -> [u8; TEXT_ROOM]
 // ---- Standard output and standard error
 
 // Writes to standard output; where that fails, it is said and false is given.
-fn put_text(text: &[u8]) -> bool {
-    if io::write_all(libc::STDOUT_FILENO, text) {
-        return true;
+fn put_text<R: Print + Eprint>(rt: &R, text: &[u8]) -> bool {
+    match rt.write_all(text) {
+        Ok(()) => true,
+        Err(error) => {
+            put_fault(rt, b"standard output", error);
+            false
+        }
     }
-    put_fault(b"standard output");
-    false
 }
 
 // Says of a file why it could not be read or written.
-fn put_fault(name: &[u8]) {
-    io::write_all(libc::STDERR_FILENO, b"listing: ");
-    os::fail(name);
+fn put_fault(rt: &impl Eprint, name: &[u8], error: Error) {
+    let _ = match str::from_utf8(name) {
+        Ok(name) => eprintln!(rt; "listing: {name}: {error}"),
+        Err(_) => eprintln!(rt; "listing: {}: {error}", name.escape_ascii()),
+    };
 }

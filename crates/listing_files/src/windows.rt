@@ -7,50 +7,47 @@ ghost use Rattle.base.specs.Paste.{pasted};
 ghost use Rattle.listing_files.specs.Filled.{FilledIn, WindowIn};
 
 use lines::turns::MAX_BYTES;
+use std::io::{Error, Read};
 
 // How far a buffer is filled.
 #[derive(Clone, Copy)]
 pub enum Filled {
     To(usize),
-    // A read failed, and errno says why.
-    Failed,
+    // A read failed, and the error says why.
+    Failed(Error),
 }
 
 // What is left of the file, as far as it was read: from an index of the buffer up to another.
 #[derive(Clone, Copy)]
 pub enum Window {
     At(usize, usize),
-    // A read failed, and errno says why.
-    Failed,
+    // A read failed, and the error says why.
+    Failed(Error),
 }
 
 // Reads once, into a buffer from index `at` on.
-fn read_some(fd: i32, buffer: &mut [u8], at: usize) -> Filled
+fn read_some<F: Read>(file: &mut F, buffer: &mut [u8], at: usize) -> Filled
     requires { at ≤ length buffer.old }
     ensures { FilledIn result at (length buffer.old) }
 {
-    let part = &mut buffer[at..];
-    let got = libc::read(fd, part);
-    if got < 0 {
-        return Filled::Failed;
+    match file.read(&mut buffer[at..]) {
+        Ok(count) => Filled::To(at + count),
+        Err(error) => Filled::Failed(error),
     }
-    Filled::To(at + io::count(got, part))
 }
 
 // Reads into a buffer from index `from` on, until it is full or the file ends.
-pub fn fill(fd: i32, buffer: &mut [u8], from: usize) -> Filled
+pub fn fill<F: Read>(file: &mut F, buffer: &mut [u8], from: usize) -> Filled
     requires { from ≤ length buffer.old }
     ensures { FilledIn result from (length buffer.old) }
 {
     let mut at = from;
     while at < buffer.len() {
-        let Filled::To(end) = read_some(fd, buffer, at) else {
-            return Filled::Failed;
-        };
-        if end == at {
-            return Filled::To(at);
+        match read_some(file, buffer, at) {
+            Filled::To(end) if end == at => return Filled::To(at),
+            Filled::To(end) => at = end,
+            Filled::Failed(error) => return Filled::Failed(error),
         }
-        at = end;
     }
     Filled::To(at)
 }
@@ -71,7 +68,7 @@ pub fn slide(buffer: &mut [u8], at: usize, end: usize)
 
 // The window once the bytes before `at` are done with: as much as one block may have, or all that
 // is left of the file.
-pub fn next_window(fd: i32, buffer: &mut [u8], at: usize, end: usize) -> Window
+pub fn next_window<F: Read>(file: &mut F, buffer: &mut [u8], at: usize, end: usize) -> Window
     requires at_le_end { at ≤ end }
     requires end_in_bounds { end ≤ length buffer.old }
     ensures { WindowIn result (length buffer.old) }
@@ -81,8 +78,8 @@ pub fn next_window(fd: i32, buffer: &mut [u8], at: usize, end: usize) -> Window
         return Window::At(at, end);
     }
     slide(buffer, at, end);
-    let Filled::To(filled) = fill(fd, buffer, left) else {
-        return Window::Failed;
-    };
-    Window::At(0, filled)
+    match fill(file, buffer, left) {
+        Filled::To(filled) => Window::At(0, filled),
+        Filled::Failed(error) => Window::Failed(error),
+    }
 }

@@ -2,6 +2,7 @@
 // rule): differences, and fillers where they are more than 63 letters apart. The contracts cite
 // specs/Entries.antt; the tables of words are made once and lent to each call.
 #![tactic(auto)]
+
 pub mod compare;
 
 ghost use Rattle.std.specs.Prelude.{◌≡◌, true, false, map, ◌+◌, ◌*◌, ◌≤◌, ◌<◌, length};

@@ -3,6 +3,7 @@
 // specs/NamesAt.antt of tokens, specs/Judged.antt and specs/Cursors.antt; each `requires` of a
 // public function is one that the caller has tested before.
 #![tactic(auto)]
+
 ghost use Rattle.std.specs.Prelude.{◌≡◌, true, false, ◌+◌, ◌≤◌, ◌<◌, length};
 ghost use mathlib.Core.List.{map, flatten};
 ghost use Rattle.base.specs.Lists.{any, places_from};

@@ -1,6 +1,7 @@
 // Read names as the writer takes them: what it refuses, and the names section by columns. The
 // contracts cite specs/WrittenNames.antt of tokens.
 #![tactic(auto)]
+
 ghost use Rattle.std.specs.Prelude.{◌≡◌, false, map, ◌+◌, ◌≤◌, length};
 ghost use Rattle.base.specs.Paste.{pasted};
 ghost use Rattle.base.specs.Place.{At};

@@ -2,6 +2,7 @@
 // Reading one, counting bytes, testing padding, writing. The contracts cite specs/Packed.antt and
 // specs/Paste.antt of base; each `requires` says that the bytes are there and the codes narrow.
 #![tactic(auto)]
+
 ghost use Rattle.std.specs.Prelude.{◌≡◌, not, ◌+◌, ◌-◌, ◌*◌, ◌/◌, ◌%◌, ◌^◌, ◌≤◌, ◌<◌, length, get_or, eqb};
 ghost use Rattle.base.specs.Lists.{any, Below};
 ghost use Rattle.base.specs.Packed.{byte_of, packed_length, pack, symbol_at, symbols_at};

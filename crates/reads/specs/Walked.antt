@@ -12,7 +12,7 @@ use Rattle.dna.specs.declared.Counts.{Counts}
 use Rattle.dna.specs.declared.Record.TheVariants as kinds
 use Rattle.reference.specs.Tables.{word_table}
 use Rattle.record_letters.specs.Laid.{stored_in, context_in}
-use Rattle.record_letters.specs.Printed.{pair_table}
+use Rattle.record_letters.specs.Printed.{pair_words}
 use Rattle.reads.specs.declared.Read.{Read}
 use Rattle.reads.specs.declared.Walked.{Walked}
 use Rattle.reads.specs.declared.Walked.TheVariants as walks
@@ -143,7 +143,7 @@ pub record WalkDone (walk : Walk Arrived) (write count : Bool) (reference : List
 pub record TablesMade (forward reverse pairs : List ℕ) : Type 0 where
   pub forward_is : forward ≡ word_table true
   pub reverse_is : reverse ≡ word_table false
-  pub pairs_are : pairs ≡ pair_table
+  pub pairs_are : pairs ≡ pair_words
 
 -- The walk cannot be refused, and there is room for the letters and ends, which fit 32 bits.
 pub record Writable (walk : Walk Arrived) (steps letter_room end_room : ℕ) : Type 0 where

@@ -15,7 +15,7 @@ use Rattle.base.proofs.PasteLaws.{pasted_nil, length_pasted, pasted_then, pasted
 use Rattle.dna.specs.Reference.{letter_of_code}
 use Rattle.dna.proofs.ReferenceLaws.{letter_of_code-byte}
 use Rattle.records.proofs.FieldLaws.{codes_byte, codes_half}
-use Rattle.record_letters.specs.Printed.{pair_word, pair_table}
+use Rattle.record_letters.specs.Printed.{pair_word, pair_words}
 
 -- ---- The table
 
@@ -30,13 +30,13 @@ letter-none (suc (suc (suc zero))) h = absurd (let z : ◌≡◌ {A = ℕ} 0 1 =
 letter-none (suc (suc (suc (suc zero)))) h =
     absurd (let z : ◌≡◌ {A = ℕ} 0 1 = omega arith in omega arith)
 
-pub length-pair_table : length pair_table ≡ 256
-unfolding pair_table
-length-pair_table = length-build 256 pair_word
+pub length-pair_words : length pair_words ≡ 256
+unfolding pair_words
+length-pair_words = length-build 256 pair_word
 
-pub get_or-pair_table : (byte : ℕ) → byte < 256 → get_or pair_table byte 0 ≡ pair_word byte
-unfolding pair_table
-get_or-pair_table byte small = get_or-build 256 pair_word byte 0 small
+pub get_or-pair_words : (byte : ℕ) → byte < 256 → get_or pair_words byte 0 ≡ pair_word byte
+unfolding pair_words
+get_or-pair_words byte small = get_or-build 256 pair_word byte 0 small
 
 -- Two bytes of a number, the low one first.
 two_bytes : (low high : ℕ) → low < 256 → high < 256
@@ -127,7 +127,7 @@ module _ (section : List ℕ) (packed : ℕ) where
     module _ (old out : List ℕ) (at place : ℕ) (there : place ≡ at + 2 * k)
         (written : out ≡ pasted old at (letters_at section packed (2 * k))) where
       -- The letters of the next byte, by the table.
-      pub letters_turn : (table new : List ℕ) → table ≡ pair_table → at + (2 * k + 2) ≤ length old
+      pub letters_turn : (table new : List ℕ) → table ≡ pair_words → at + (2 * k + 2) ≤ length old
           → new ≡ pasted out place (le_bytes 2 (get_or table byte 0))
           → new ≡ pasted old at (letters_at section packed (2 * (k + 1)))
       letters_turn table new lent room e =
@@ -135,7 +135,7 @@ module _ (section : List ℕ) (packed : ℕ) where
           let pair : le_bytes 2 (get_or table byte 0)
           ≡ letter_of_code (byte / 16) ∷ letter_of_code (byte % 16) ∷ [] =
           ap (λ (t : List ℕ). le_bytes 2 (get_or t byte 0)) lent
-          ∙ ap (le_bytes 2) (get_or-pair_table byte small)
+          ∙ ap (le_bytes 2) (get_or-pair_words byte small)
           ∙ pair_word-bytes byte in
           pasted_then old out new at place (letters_at section packed (2 * k))
           (letter_of_code (byte / 16) ∷ letter_of_code (byte % 16) ∷ []) (omega arith) (omega arith)

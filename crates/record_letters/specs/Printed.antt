@@ -24,8 +24,8 @@ letter_n = 78
 unfoldable pub pair_word : (byte : ℕ) → ℕ
 pair_word byte = letter_of_code (byte / 16) + 256 * letter_of_code (byte % 16)
 
-unfoldable pub pair_table : List ℕ
-pair_table = build 256 pair_word
+unfoldable pub pair_words : List ℕ
+pair_words = build 256 pair_word
 
 -- What a decoded record meets for its letters to be printed: entries go on, the layout counts the
 -- record's own, and codes are letters.

@@ -26,7 +26,7 @@ ghost use Rattle.record_letters.specs.Laid.{
 };
 ghost use Rattle.record_letters.specs.Printed.{
   pair_word,
-  pair_table,
+  pair_words,
   Printable,
   left_in,
   local_letters,
@@ -63,7 +63,7 @@ pub fn put_read(
         × (at + size ≤ length out.old)
         × (forward_table.now ≡ word_table true)
         × (reverse_table.now ≡ word_table false)
-        × (pair_table.now ≡ pair_table) }
+        × (pair_table.now ≡ pair_words) }
     ensures { (out.new
         ≡ pasted out.old at
         (record_letters reference.now (context_in 0 size «record»)
@@ -110,7 +110,7 @@ fn put_plain(
         × (at + size ≤ length out.old)
         × (forward_table.now ≡ word_table true)
         × (reverse_table.now ≡ word_table false)
-        × (pair_table.now ≡ pair_table) }
+        × (pair_table.now ≡ pair_words) }
     ensures { out.new
         ≡ pasted out.old at
         (plain_letters reference.now (context_in 0 size «record»)
@@ -304,7 +304,7 @@ fn put_codes4(
         × (size ≤ max_read_length)
         × (Below 5 (symbols_at 16 2 section.now packed 0 size))
         × (at + size ≤ length out.old)
-        × (pair_table.now ≡ pair_table) }
+        × (pair_table.now ≡ pair_words) }
     ensures { out.new
         ≡ pasted out.old at
         (map letter_of_code (symbols_at 16 2 section.now packed 0 size)) }
@@ -327,7 +327,7 @@ fn put_pairs(
 )
     requires { (packed + bytes ≤ length section.now)
         × (at + 2 * bytes ≤ length out.old)
-        × (pair_table.now ≡ pair_table) }
+        × (pair_table.now ≡ pair_words) }
     ensures { out.new
         ≡ pasted out.old at
         (map letter_of_code (symbols_at 16 2 section.now packed 0 (2 * bytes))) }
@@ -341,7 +341,7 @@ fn put_pairs(
 
 // The table of pairs, which the caller makes once and lends to each call.
 pub fn pair_table() -> [u16; 256]
-    ensures { result ≡ pair_table }
+    ensures { result ≡ pair_words }
 {
     let mut table = [0u16; 256];
     fill_pairs(&mut table);
@@ -351,7 +351,7 @@ pub fn pair_table() -> [u16; 256]
 // Fills a table of 256 pairs.
 fn fill_pairs(table: &mut [u16])
     requires { length table.old ≡ 256 }
-    ensures { table.new ≡ pair_table }
+    ensures { table.new ≡ pair_words }
 {
     let mut byte: usize = 0;
     while byte < 256 {

@@ -14,7 +14,7 @@ use Rattle.base.specs.Faults.{fault}
 use Rattle.base.specs.Answer.{checked}
 use Rattle.base.proofs.NumberLaws.{length-le_bytes}
 use Rattle.base.proofs.AnswerLaws.{cond_yes, cond_no}
-use Rattle.dna.specs.Record.{ReadContext, Entry, perfect, global, field_width, fields_bytes}
+use Rattle.dna.specs.Record.{ReadContext, Entry, field_width, fields_bytes}
 use Rattle.dna.specs.RecordFaults.{field_faults}
 use Rattle.dna.specs.RecordAt.{entries_at, perfect_at, global_at, judged_at, fields_at}
 use Rattle.dna.specs.declared.Placement.{Placement}

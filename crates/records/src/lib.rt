@@ -3,6 +3,7 @@
 // over the section has: the place lies inside, the read is no longer than a read may be, and the
 // position before and the reference are below 2 ^ 32, so that no sum wraps.
 #![tactic(auto)]
+
 ghost use Rattle.std.specs.Prelude.{◌≡◌, true, false, ◌||◌, ◌+◌, ◌*◌, ◌≤◌, ◌<◌, ◌^◌, length, get_or};
 ghost use Rattle.base.specs.Packed.{packed_length};
 ghost use Rattle.base.specs.Answer.{first_number};

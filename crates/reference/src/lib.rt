@@ -2,6 +2,7 @@
 // contracts cite dna/specs/Reference.antt; the tables of words are those of specs/Tables.antt, made
 // once and lent to each call.
 #![tactic(auto)]
+
 ghost use Rattle.std.specs.Prelude.{◌≡◌, Bool, true, false, ◌+◌, ◌-◌, ◌*◌, ◌/◌, ◌<◌, ◌≤◌, ◌^◌, length, get_or};
 ghost use Rattle.base.specs.Lists.{Below};
 ghost use Rattle.base.specs.Paste.{pasted};

@@ -1,7 +1,6 @@
 -- The writer accepts exactly the names within the limits, and takes them as they were lent. Assumes nothing.
 use mathlib.Core.Path.{◌≡◌, sym, ap, ◌∙◌, subst}
 use Prim.Native.Nat.{ℕ}
-use native.Mathlib.Omega.{arith}
 use mathlib.Core.Bool.{true, false, not}
 use mathlib.Core.List.{List, [], ◌∷◌, map, flatten}
 use lib.ListN.{length, length-map}

@@ -6,7 +6,7 @@ use mathlib.Core.List.{List, [], ◌∷◌}
 use lib.ListN.{length}
 use lib.Dec.{eqb}
 use borrow.Author.Tests.{eq-eqb}
-use Rattle.base.specs.Lists.{any, All}
+use Rattle.base.specs.Lists.{any}
 use Rattle.base.proofs.AllLaws.{all_too, all_none}
 use Rattle.tokens.specs.Split.{Split}
 use Rattle.tokens.specs.WrittenNames.{split_of, token_count, token_counts_differ}

@@ -78,10 +78,10 @@ rows_right (suc reads) section first cursors e =
     record {
       tokens = tokens-right reads section first cursors parts.0 rest.tokens;
       rows = elim [
-            | zero ↦ λ h. ap row_invalid (row_from-first reads section first cursors) ∙ more.0
-            | suc j ↦ λ h.
-                ap row_invalid (sym (row_from-later reads section first cursors j)) ∙ rest.rows j (le_of_suc-le-suc h)
-          ];
+        | zero ↦ λ h. ap row_invalid (row_from-first reads section first cursors) ∙ more.0
+        | suc j ↦ λ h.
+            ap row_invalid (sym (row_from-later reads section first cursors j)) ∙ rest.rows j (le_of_suc-le-suc h)
+      ];
     }
 
 -- And back.

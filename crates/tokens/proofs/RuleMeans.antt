@@ -1,18 +1,17 @@
 -- The writer's rule for names is as 02 says. Assumes nothing.
 use mathlib.Core.Path.{◌≡◌, refl, sym, subst}
 use mathlib.Core.Logic.{◌⊎◌, inl, inr}
-use Prim.Native.Nat.{ℕ, zero, suc, ◌+◌, ◌≤◌, ◌<◌, ◌^◌}
-use native.Mathlib.Nat.{not-suc-le-zero}
+use Prim.Native.Nat.{ℕ, zero, suc, ◌+◌, ◌≤◌, ◌^◌}
 use native.Mathlib.Omega.{arith}
-use mathlib.Core.Bool.{Bool, true, false, not, ◌||◌, ◌&&◌}
+use mathlib.Core.Bool.{true, false, ◌||◌, ◌&&◌}
 use mathlib.Core.List.{List, [], ◌∷◌, map}
 use lib.ListN.{length, get_or}
 use lib.Dec.{ltb, eqb}
-use borrow.Author.Tests.{ltb-true, ltb-false, le-ltb, eqb-true, eq-eqb}
+use borrow.Author.Tests.{ltb-true, ltb-false, le-ltb, eqb-true}
 use Rattle.base.specs.Lists.{any, All, Below, member}
 use Rattle.base.proofs.ListLaws.{by_test}
 use Rattle.base.proofs.Tests.{absurd_test, or-neither, neither_or}
-use Rattle.base.proofs.AllLaws.{none-all, all_none}
+use Rattle.base.proofs.AllLaws.{all_none}
 use Rattle.base.proofs.AnswerLaws.{cond_yes, cond_no}
 use Rattle.tokens.specs.Split.{is_digit}
 use Rattle.tokens.specs.Columns.{widths}

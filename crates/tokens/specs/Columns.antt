@@ -1,6 +1,6 @@
 -- The columns of a names section (02, Ticket 1; 000: token sets): each holds one token of every
 -- name, as strings, or as numbers that rise.
-use Rattle.std.specs.Prelude.{ℕ, suc, ◌≤◌, ◌<◌, ◌^◌, ◌≡◌, true, cond, length, eqb}
+use Rattle.std.specs.Prelude.{ℕ, suc, ◌≤◌, ◌^◌, ◌≡◌, true, cond, length, eqb}
 use mathlib.Core.List.{List, [], ◌∷◌, ◌++◌, map, flat_map}
 use Rattle.base.specs.Lists.{member, places_from, All, Below}
 use Rattle.base.specs.Numbers.{le_bytes}

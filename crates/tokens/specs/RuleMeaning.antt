@@ -1,5 +1,5 @@
 -- What the writer's rule for names says (02, Ticket 1), in propositions with its own numbers.
-use Rattle.std.specs.Prelude.{ℕ, suc, ◌+◌, ◌≤◌, ◌<◌, ◌^◌, ◌≡◌, true, List, [], map, length, get_or}
+use Rattle.std.specs.Prelude.{ℕ, suc, ◌+◌, ◌≤◌, ◌<◌, ◌^◌, ◌≡◌, true, List, map, length, get_or}
 use Rattle.base.specs.Lists.{All, Below, member}
 use Rattle.tokens.specs.Split.{is_digit}
 use Rattle.tokens.specs.Columns.{widths, strings, rising}

@@ -2,6 +2,7 @@
 // offsets are written so. The contracts cite specs/Varint16.antt of dna and specs/Paste.antt of
 // base; each `requires` says that there is room.
 #![tactic(auto)]
+
 ghost use Rattle.std.specs.Prelude.{◌≡◌, ◌+◌, ◌≤◌, length};
 ghost use Rattle.base.specs.Paste.{pasted};
 ghost use Rattle.dna.specs.Varint16.{varint16_bytes};

@@ -8,7 +8,7 @@ use lib.ListN.{length, length-append}
 use Rattle.base.specs.Lists.{All, Begins}
 use Rattle.dna.specs.Division.{Divides, SameDivision}
 use Rattle.dna.proofs.OneDivision.{one_division}
-use Rattle.format.specs.Sections.{section_of, dna_number, names_number, n_number}
+use Rattle.format.specs.Sections.{section_of, dna_number, n_number}
 use Rattle.format.specs.WellFormed.{BlockDivision, DividesBlock, WellFormed}
 use Rattle.format.specs.Joined.{Joined, AllWellFormed, CutAt, DivideBlocks, block_reads}
 use Rattle.format.specs.Joined.{file_reads, file_names}

@@ -2,18 +2,18 @@
 use mathlib.Core.Path.{◌≡◌, refl, sym, ap, ◌∙◌}
 use Prim.Native.Nat.{ℕ, ◌≤◌, ◌<◌}
 use native.Mathlib.Omega.{arith}
-use mathlib.Core.Bool.{Bool, true, false, ◌||◌}
+use mathlib.Core.Bool.{Bool, true, false}
 use mathlib.Core.Logic.{◌↔◌}
-use mathlib.Core.List.{List, [], ◌∷◌, ◌++◌, flatten}
+use mathlib.Core.List.{List, [], ◌++◌, flatten}
 use lib.ListN.{length, take}
 use lib.Dec.{ltb, eqb}
 use borrow.Author.Tests.{ltb-true, ltb-false, lt-ltb, eqb-true}
 use Rattle.base.specs.Lists.{AllBytes}
-use Rattle.base.specs.Faults.{fault, NoneFits}
+use Rattle.base.specs.Faults.{NoneFits}
 use Rattle.base.specs.Answer.{checked, first_number, Answer, Scan, found, refused, and_then}
 use Rattle.base.specs.Answer.{refused_as}
 use Rattle.base.proofs.ListLaws.{by_test}
-use Rattle.base.proofs.AnswerLaws.{refused-same, absurd-refused, checked-none, checked-first}
+use Rattle.base.proofs.AnswerLaws.{refused-same, absurd-refused, checked-first}
 use Rattle.base.proofs.AnswerLaws.{and_then-found, and_then_stops, and_then-refused}
 use Rattle.base.proofs.AnswerLaws.{Refuses, checked-refuses, and_then-refuses}
 use Rattle.base.proofs.AnswerLaws.{refuses_too, refuses-with, cond_yes, cond_no}
@@ -41,7 +41,7 @@ use Rattle.format.specs.FileAnswer.{BlockRefusal, of_block, blocks_answer, file_
 use Rattle.format.specs.FileAnswer.{file_outcome, validated}
 use Rattle.format.specs.EncodeAnswer.{EncodeInput, encode_faults, encode_number, encoded}
 use Rattle.format.specs.Demands.{Room, header_rows, writer_rows, GivenExactly, GivenFirst}
-use Rattle.format.proofs.BlockLaws.{lengths-find, lengths-found, section-bytes}
+use Rattle.format.proofs.BlockLaws.{lengths-found, section-bytes}
 use Rattle.format.proofs.BlockLaws.{groups-counted, block_accepts}
 use Rattle.format.proofs.AnswerNumbers.{DnaRefusal, OwnRefusal, least-own, after_lengths}
 use Rattle.format.proofs.AnswerNumbers.{past-reference, reference-refused, lengths-own}

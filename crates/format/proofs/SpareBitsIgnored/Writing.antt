@@ -8,7 +8,7 @@ use mathlib.Core.List.{List, [], ◌∷◌, ◌++◌, map}
 use lib.ListN.{length, get_or, drop, length-take}
 use lib.Dec.{leb, ltb, eqb}
 use borrow.Author.Tests.{leb-true}
-use Rattle.base.specs.Lists.{build, part, keep, places_where, All}
+use Rattle.base.specs.Lists.{build, part, places_where}
 use Rattle.base.specs.Groups.{in_groups}
 use Rattle.base.specs.Paste.{pasted}
 use Rattle.base.proofs.ListLaws.{by_test, build_cong, all_build}

@@ -6,8 +6,6 @@ use Rattle.integers.proofs.put_u32.Goals as goal
 
 pub returns : goal.returns
 returns c =
-    
-    
     let a = c.args in
     let low = c.put_u16 in
     let high = c.put_u16-2 in

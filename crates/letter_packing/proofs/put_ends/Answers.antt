@@ -7,8 +7,7 @@ use Rattle.letter_packing.proofs.put_ends.Goals as goal
 
 pub put_full_bytes-requires : goal.put_full_bytes-requires
 unfolding packed_length
-put_full_bytes-requires c =
-    (
+put_full_bytes-requires c = (
   lies-part _ _ c.requires.read_lies.0 (omega arith) (omega arith)
       (omega arith),
   omega arith,
@@ -19,10 +18,10 @@ unfolding packed_length
 put_mixed_byte-requires c =
     record {
       read_lies = (
-    c.requires.read_lies.0,
-    omega arith,
-    omega arith,
-  );
+        c.requires.read_lies.0,
+        omega arith,
+        omega arith,
+      );
       n_in_bounds = omega arith;
     }
 

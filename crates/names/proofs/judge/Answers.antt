@@ -35,10 +35,10 @@ pub judge_rows-requires : goal.judge_rows-requires
 judge_rows-requires c =
     record {
       table_fits = table_fits c.args.section.now c.size32-columns.result _ _ (sym c.table_invalid.ensures ∙ c.if-table_invalid.false)
-      (omega (arith, c.first_places.auto.places)) (omega (
-        arith,
-        c.first_places.auto.values,
-      ));
+          (omega (arith, c.first_places.auto.places)) (omega (
+            arith,
+            c.first_places.auto.values,
+          ));
       reads_bound = omega arith;
     }
 

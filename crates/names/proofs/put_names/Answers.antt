@@ -65,13 +65,13 @@ put_rows-requires c =
       ));
       columns_value = (ap (rows_invalid a.reads s true) start ∙ right.1, omega arith);
       columns_in_bounds = (
-          omega (
-            arith,
-            size,
-            c.requires.section_in_bounds.0,
-          ),
-          omega arith,
-        );
+        omega (
+          arith,
+          size,
+          c.requires.section_in_bounds.0,
+        ),
+        omega arith,
+      );
     }
 
 pub returns : goal.returns

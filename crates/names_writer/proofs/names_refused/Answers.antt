@@ -14,10 +14,10 @@ pub returns-then-name_ends_invalid : goal.returns-then-name_ends_invalid
 unfolding names_refused
 returns-then-name_ends_invalid c =
     simp (
-  eq-eqb _ _ c.if-ends-reads.false,
-  sym
-      c.name_ends_invalid.ensures ∙ c.if-name_ends_invalid.true,
-)
+      eq-eqb _ _ c.if-ends-reads.false,
+      sym
+          c.name_ends_invalid.ensures ∙ c.if-name_ends_invalid.true,
+    )
 
 pub returns-then-byte_invalid : goal.returns-then-byte_invalid
 unfolding names_refused

@@ -99,31 +99,31 @@ put_columns-requires c =
       names_fit = (names_fit a.names.now a.ends.now c.requires.ends_value (pos_of_ne-zero
           c.if-ends-eq0.false) c.requires.ends_len_bound);
       places_lent = record {
-          marks_room = omega (
-            arith,
-            c.token_count-count.auto.marks,
-          );
-          values_room = omega arith;
-          places_room = omega
-              arith;
-        };
+        marks_room = omega (
+          arith,
+          c.token_count-count.auto.marks,
+        );
+        values_room = omega arith;
+        places_room = omega
+            arith;
+      };
       count_value = (
-            c.token_count-count.ensures,
-            c.requires.at.0,
-            c.requires.at.1,
-          );
+        c.token_count-count.ensures,
+        c.requires.at.0,
+        c.requires.at.1,
+      );
       ends_in_bounds = omega (
-            arith,
-            c.put_table.auto.out,
-            section_fits (names_lent a.names.now a.ends.now) (omega (
-              arith,
-              (pos_of_ne-zero
-                  c.if-ends-eq0.false),
-              length_lent a.names.now a.ends.now,
-            ))
-                c.token_count-count.result
-                c.token_count-count.ensures a.at (length a.out.now) c.requires.ends_in_bounds,
-          );
+        arith,
+        c.put_table.auto.out,
+        section_fits (names_lent a.names.now a.ends.now) (omega (
+          arith,
+          (pos_of_ne-zero
+              c.if-ends-eq0.false),
+          length_lent a.names.now a.ends.now,
+        ))
+            c.token_count-count.result
+            c.token_count-count.ensures a.at (length a.out.now) c.requires.ends_in_bounds,
+      );
     }
 
 pub returns : goal.returns

@@ -1,7 +1,6 @@
 use mathlib.Core.Path.{sym}
-use Prim.Native.Nat.{◌-◌}
 use native.Mathlib.Omega.{arith}
-use lib.ListN.{length, length-set}
+use lib.ListN.{length-set}
 use borrow.Author.Rules.{rules}
 use Rattle.base.proofs.PackedPasteLaws.{packed_byte, pasted_pack_full, pasted_pack_partial}
 use Rattle.base.proofs.PasteLaws.{pasted_nil, pasted_turn}

@@ -43,7 +43,7 @@ small c =
 
 -- The entries are there.
 room : (c : Else-section-entries)
-    → 
+    →
     let a = c.args in
     c.in-Found.entries + a.count ≤ length a.section.now
 room c = omega (arith, c.if-section-entries.false, (found (goal.at.Else-section-entries c).In-Found).fits)

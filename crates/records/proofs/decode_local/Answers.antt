@@ -40,7 +40,7 @@ small c =
 
 -- Left and right together.
 sum : (c : After-packed_length2-bytes)
-    → 
+    →
     let a = c.args in
     let n = c.in-Found.entries in
     get_or a.section.now (n + a.count) 0 + get_or a.section.now (n + a.count + 1) 0
@@ -49,7 +49,7 @@ sum c = omega (arith, c.size8.ensures.0, c.size8-2.ensures.0)
 
 -- The letters of the ends are cut.
 cut : (c : Then-section-packed)
-    → 
+    →
     let a = c.args in
     length a.section.now
     < c.in-Found.entries + a.count + 2
@@ -58,7 +58,7 @@ cut c = omega (arith, c.if-section-packed.true, c.packed_length2-bytes.ensures)
 
 -- They are there.
 room : (c : Else-section-packed)
-    → 
+    →
     let a = c.args in
     c.in-Found.entries + a.count + 2
     + packed_length 4 (c.size8.result + c.size8-2.result)

@@ -7,8 +7,7 @@ use borrow.Author.Rules.{rules}
 use Rattle.varint16.proofs.put_many_words.Goals as goal
 
 pub loop-left-init : goal.loop-left-init
-loop-left-init c =
-    (
+loop-left-init c = (
   pasting-start c.args.out.now c.args.at
       (varint16_bytes c.args.number) c.requires,
   refl,

@@ -1,8 +1,6 @@
 use mathlib.Core.Path.{sym, refl, ◌∙◌}
 use borrow.Author.Rules.{rules}
-use Prim.Native.Nat.{◌-◌}
 use native.Mathlib.Omega.{arith}
-use Rattle.cases.specs.Hash.{hash_from}
 use Rattle.cases.proofs.HashLaws.{hash_from-turn, hash_from-end}
 use Rattle.cases.proofs.hash.hash_bytes.Goals as goal
 

@@ -1,4 +1,3 @@
-use Prim.Native.Nat.{◌-◌}
 use native.Mathlib.Omega.{arith}
 use Rattle.mismatches.proofs.PlaceLaws.{none_here, none_then, none_more, first_found}
 use Rattle.mismatches.proofs.PlaceLaws.{first-none}

@@ -2,15 +2,13 @@ use mathlib.Core.Path.{◌≡◌, refl, sym, ap, ◌∙◌}
 use Prim.Native.Nat.{ℕ, ◌+◌, ◌-◌}
 use native.Mathlib.Omega.{arith}
 use borrow.Author.Rules.{rules}
-use Rattle.base.specs.Decimal.{decimal}
 use Rattle.base.specs.Paste.{pasted}
 use Rattle.base.proofs.PasteLaws.{pasted_nil}
 use Rattle.base.proofs.DigitLaws.{last_digits, decimal-last, last_stored}
 use Rattle.names.proofs.decimal.put_decimal.Goals as goal
 
 pub loop-k-init : goal.loop-k-init
-loop-k-init c =
-    (
+loop-k-init c = (
   omega arith,
   refl,
   ap (λ (l : _). pasted c.args.out.now c.args.at l)

@@ -1,7 +1,7 @@
 -- `names::decimal::put_decimal` meets its contract. The loop's invariant: writing the first k
 -- digits makes the buffer what it is to be. Assumes nothing.
 use mathlib.Core.Path.{◌≡◌}
-use Prim.Native.Nat.{◌-◌, ◌≤◌}
+use Prim.Native.Nat.{◌≤◌}
 use lib.ListN.{length}
 use Rattle.base.specs.Decimal.{decimal}
 use Rattle.base.specs.Paste.{pasted}

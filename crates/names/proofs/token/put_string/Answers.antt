@@ -1,6 +1,6 @@
 use mathlib.Core.Path.{◌≡◌, refl, sym, ap, ◌∙◌}
 use mathlib.Core.List.{List}
-use Prim.Native.Nat.{ℕ, ◌+◌, ◌-◌, ◌<◌}
+use Prim.Native.Nat.{ℕ, ◌+◌, ◌<◌}
 use native.Mathlib.Nat.{add-zero}
 use native.Mathlib.Omega.{arith}
 use lib.ListN.{length, get_or}
@@ -13,9 +13,9 @@ use Rattle.names.proofs.token.put_string.Goals as goal
 pub bounds-section-place : goal.bounds-section-place
 bounds-section-place c =
     omega (
-  arith,
-  string_inside c.args.section.now c.args.place c.requires.0,
-)
+      arith,
+      string_inside c.args.section.now c.args.place c.requires.0,
+    )
 
 pub loop-byte-init : goal.loop-byte-init
 loop-byte-init c =

@@ -12,9 +12,9 @@ pub returns-then-section-place : goal.returns-then-section-place
 unfolding is_digit
 returns-then-section-place c =
     simp (
-  eq-eqb _ 0 c.if-section-ne-STRINGS.false,
-  get_or-eq_default c.args.section.now 0 c.if-section-place.true,
-)
+      eq-eqb _ 0 c.if-section-ne-STRINGS.false,
+      get_or-eq_default c.args.section.now 0 c.if-section-place.true,
+    )
 
 pub returns : goal.returns
 returns c =

@@ -16,8 +16,7 @@ returns-then-kind-eq-STEPS16 c =
 
 pub returns-then-kind-eq-STEPS32 : goal.returns-then-kind-eq-STEPS32
 unfolding step_width
-returns-then-kind-eq-STEPS32 c =
-    (
+returns-then-kind-eq-STEPS32 c = (
   simp (
     ne_eqb _ 4 c.if-kind-eq-STEPS8.false,
     ne_eqb _ 3 c.if-kind-eq-STEPS16.false,
@@ -28,8 +27,7 @@ returns-then-kind-eq-STEPS32 c =
 
 pub returns : goal.returns
 unfolding step_width
-returns c =
-    (
+returns c = (
   simp (
     ne_eqb _ 4 c.if-kind-eq-STEPS8.false,
     ne_eqb _ 3 c.if-kind-eq-STEPS16.false,

@@ -1,7 +1,7 @@
 -- `names_writer::measuring::all_rows` meets its contract. Assumes nothing.
 -- The first name lies from 0 to its end.
 use mathlib.Core.Path.{◌≡◌, refl, sym, ◌∙◌}
-use Prim.Native.Nat.{◌-◌, ◌≤◌}
+use Prim.Native.Nat.{◌≤◌}
 use native.Mathlib.Omega.{arith}
 use Rattle.tokens.specs.WrittenNames.{names_lent, token_count}
 use Rattle.names_writer.proofs.LentLaws.{length_lent}
@@ -64,25 +64,24 @@ later_rows-requires c =
     record {
       names_fit = c.requires.names_fit;
       tables_lent = tables_stay a.marks.now a.kinds.now a.values.now a.sizes.now
-            _ _ _ _ c.requires.tables_lent c.split_name-count.auto.marks
-            c.first_row.auto.kinds
-            c.first_row.auto.values
-            c.first_row.auto.sizes;
+          _ _ _ _ c.requires.tables_lent c.split_name-count.auto.marks
+          c.first_row.auto.kinds
+          c.first_row.auto.values
+          c.first_row.auto.sizes;
       count_value = (
-          counted,
-          measured_first (names_lent a.names.now a.ends.now)
-              c.split_name-count.result counted
-              a.kinds.now a.values.now a.sizes.now _ _ _
-              (column-room a.marks.now a.kinds.now a.values.now a.sizes.now
-              c.split_name-count.result c.requires.tables_lent most)
-              _ n.short (omega (arith, c.requires.names_fit.some, length_lent a.names.now a.ends.now))
-              n.is c.first_row.ensures,
-        );
+        counted,
+        measured_first (names_lent a.names.now a.ends.now)
+            c.split_name-count.result counted
+            a.kinds.now a.values.now a.sizes.now _ _ _
+            (column-room a.marks.now a.kinds.now a.values.now a.sizes.now
+            c.split_name-count.result c.requires.tables_lent most)
+            _ n.short (omega (arith, c.requires.names_fit.some, length_lent a.names.now a.ends.now))
+            n.is c.first_row.ensures,
+      );
     }
 
 pub returns : goal.returns
-returns c =
-    (
+returns c = (
   c.split_name-count.ensures.1 ∙ sym (name (goal.at.returns c).After-size32-to).counted,
   c.later_rows.ensures,
 )

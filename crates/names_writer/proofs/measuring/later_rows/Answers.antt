@@ -1,7 +1,7 @@
 use mathlib.Core.Path.{subst}
 use mathlib.Core.Path.{◌≡◌, refl, sym, ap, ◌∙◌}
 use mathlib.Core.List.{◌∷◌}
-use Prim.Native.Nat.{ℕ, ◌-◌, ◌≤◌}
+use Prim.Native.Nat.{ℕ, ◌≤◌}
 use native.Mathlib.Numerals.{add-one}
 use native.Mathlib.Omega.{arith}
 use lib.ListN.{length, get_or}
@@ -31,17 +31,16 @@ name c =
     c.size32-to.result (omega arith) l.invariant.2 c.size32-to.ensures.0
 
 pub loop-i-init : goal.loop-i-init
-loop-i-init c =
-    (
-      omega arith,
-      omega (arith, c.requires.names_fit.some),
-      c.size32-from.ensures.0,
-      c.requires.count_value.1,
-      refl,
-      refl,
-      refl,
-      refl,
-    )
+loop-i-init c = (
+  omega arith,
+  omega (arith, c.requires.names_fit.some),
+  c.size32-from.ensures.0,
+  c.requires.count_value.1,
+  refl,
+  refl,
+  refl,
+  refl,
+)
 
 pub slice_bounds-name-count : goal.slice_bounds-name-count
 slice_bounds-name-count c =
@@ -80,13 +79,13 @@ next_row-requires c =
           (c.requires.count_value.0 ∙ n.counted)
           c.split_name.ensures.0;
       column_room = column-room l.marks l.kinds l.values l.sizes a.count
-            (tables_stay a.marks.now a.kinds.now a.values.now a.sizes.now
-            l.marks l.kinds l.values l.sizes c.requires.tables_lent
-            l.invariant.4 l.invariant.5 l.invariant.6 l.invariant.7)
-            most;
+          (tables_stay a.marks.now a.kinds.now a.values.now a.sizes.now
+          l.marks l.kinds l.values l.sizes c.requires.tables_lent
+          l.invariant.4 l.invariant.5 l.invariant.6 l.invariant.7)
+          most;
       sizes_fit = sizes_fit (names_lent a.names.now a.ends.now) l.i l.kinds
-            l.values l.sizes a.count l.invariant.3
-            (omega (arith, c.requires.names_fit.few)) c.requires.count_value.0;
+          l.values l.sizes a.count l.invariant.3
+          (omega (arith, c.requires.names_fit.few)) c.requires.count_value.0;
     }
 
 pub loop-i-preserved : goal.loop-i-preserved

@@ -7,11 +7,11 @@ use Rattle.names_writer.proofs.pieces.put_step.Goals as goal
 pub bounds-out-at : goal.bounds-out-at
 bounds-out-at c =
     omega (
-  arith,
-  c.requires,
-  width_8 c.args.kind
-      c.if-kind-eq-STEPS_8.true,
-)
+      arith,
+      c.requires,
+      width_8 c.args.kind
+          c.if-kind-eq-STEPS_8.true,
+    )
 
 pub returns-then-kind-eq-STEPS_8 : goal.returns-then-kind-eq-STEPS_8
 returns-then-kind-eq-STEPS_8 c =
@@ -22,12 +22,12 @@ returns-then-kind-eq-STEPS_8 c =
 pub put_u16-requires : goal.put_u16-requires
 put_u16-requires c =
     omega (
-  arith,
-  c.requires,
-  width_16
-      c.args.kind c.if-kind-eq-STEPS_8.false
-      c.if-kind-eq-STEPS_16.true,
-)
+      arith,
+      c.requires,
+      width_16
+          c.args.kind c.if-kind-eq-STEPS_8.false
+          c.if-kind-eq-STEPS_16.true,
+    )
 
 pub returns-then-kind-eq-STEPS_16 : goal.returns-then-kind-eq-STEPS_16
 returns-then-kind-eq-STEPS_16 c =
@@ -40,12 +40,12 @@ returns-then-kind-eq-STEPS_16 c =
 pub put_u32-requires : goal.put_u32-requires
 put_u32-requires c =
     omega (
-  arith,
-  c.requires,
-  width_32
-      c.args.kind c.if-kind-eq-STEPS_8.false
-      c.if-kind-eq-STEPS_16.false,
-)
+      arith,
+      c.requires,
+      width_32
+          c.args.kind c.if-kind-eq-STEPS_8.false
+          c.if-kind-eq-STEPS_16.false,
+    )
 
 pub returns : goal.returns
 returns c =

@@ -1,6 +1,5 @@
 -- `names_writer::refused::length_invalid` meets its contract. Assumes nothing.
 use mathlib.Core.Path.{sym}
-use Prim.Native.Nat.{◌-◌}
 use native.Mathlib.Omega.{arith}
 use Rattle.names_writer.proofs.RefusedLaws.{length_none, length_some}
 use Rattle.names_writer.proofs.refused.length_invalid.Goals as goal

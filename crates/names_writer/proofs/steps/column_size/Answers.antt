@@ -21,20 +21,20 @@ returns-then-reads-eq0 c =
 pub overflow_mul-result : goal.overflow_mul-result
 overflow_mul-result c =
     omega (
-  arith,
-  c.requires,
-  steps-small c.kind_width.result
-      (c.args.reads - 1) c.kind_width.ensures.1,
-)
+      arith,
+      c.requires,
+      steps-small c.kind_width.result
+          (c.args.reads - 1) c.kind_width.ensures.1,
+    )
 
 pub overflow_add-result : goal.overflow_add-result
 overflow_add-result c =
     omega (
-  arith,
-  c.requires,
-  steps-small c.kind_width.result
-      (c.args.reads - 1) c.kind_width.ensures.1,
-)
+      arith,
+      c.requires,
+      steps-small c.kind_width.result
+          (c.args.reads - 1) c.kind_width.ensures.1,
+    )
 
 pub returns : goal.returns
 unfolding column_size

@@ -20,11 +20,11 @@ pub returns-then-number-previous : goal.returns-then-number-previous
 unfolding kind_after
 returns-then-number-previous c =
     simp (
-  ne_eqb _ _ c.if-kind-eq-STRINGS.false,
-  le-ltb _ _
-      c.if-number-gt-MAX_NUMBER.false,
-  lt-ltb _ _ c.if-number-previous.true,
-)
+      ne_eqb _ _ c.if-kind-eq-STRINGS.false,
+      le-ltb _ _
+          c.if-number-gt-MAX_NUMBER.false,
+      lt-ltb _ _ c.if-number-previous.true,
+    )
 
 pub returns-then-number-previous-gt-MAX_STEP : goal.returns-then-number-previous-gt-MAX_STEP
 unfolding kind_after

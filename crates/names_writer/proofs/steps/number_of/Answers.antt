@@ -5,8 +5,7 @@ use Rattle.names_writer.proofs.ValueLaws.{number_is, number_none}
 use Rattle.names_writer.proofs.steps.number_of.Goals as goal
 
 pub returns-then-not_number : goal.returns-then-not_number
-returns-then-not_number c =
-    (
+returns-then-not_number c = (
   sym (number_none c.args.token.now (sym
       c.not_number.ensures ∙ c.if-not_number.true)),
   omega arith,
@@ -17,8 +16,7 @@ value_of-requires c =
     sym c.not_number.ensures ∙ c.if-not_number.false
 
 pub returns : goal.returns
-returns c =
-    (
+returns c = (
   c.value_of.ensures.0
       ∙ sym (number_is c.args.token.now (sym
       c.not_number.ensures ∙ c.if-not_number.false)),

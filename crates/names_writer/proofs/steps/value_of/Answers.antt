@@ -1,5 +1,4 @@
 use mathlib.Core.Path.{◌≡◌, sym, ◌∙◌}
-use Prim.Native.Nat.{◌-◌}
 use native.Mathlib.Nat.{pow-zero}
 use native.Mathlib.Omega.{arith}
 use lib.ListN.{get_or}
@@ -20,10 +19,10 @@ overflow_sub-digit c =
 pub overflow_cast-digit : goal.overflow_cast-digit
 overflow_cast-digit c =
     omega (
-  arith,
-  (digit_at c.args.token.now
-      c.requires c.loop-i.i (omega arith)).1,
-)
+      arith,
+      (digit_at c.args.token.now
+          c.requires c.loop-i.i (omega arith)).1,
+    )
 
 pub overflow_mul-value : goal.overflow_mul-value
 overflow_mul-value c =

@@ -18,18 +18,18 @@ pub returns-then-kind-eq-STEPS_32 : goal.returns-then-kind-eq-STEPS_32
 unfolding widened step_type
 returns-then-kind-eq-STEPS_32 c =
     simp (
-  le-ltb _ _ c.if-step-gt65535.false,
-  lt-ltb _ _
-      c.if-step-le255.false,
-  eq-eqb _ _ c.if-kind-eq-STEPS_32.true,
-)
+      le-ltb _ _ c.if-step-gt65535.false,
+      lt-ltb _ _
+          c.if-step-le255.false,
+      eq-eqb _ _ c.if-kind-eq-STEPS_32.true,
+    )
 
 pub returns : goal.returns
 unfolding widened step_type
 returns c =
     simp (
-  le-ltb _ _ c.if-step-gt65535.false,
-  lt-ltb _ _
-      c.if-step-le255.false,
-  ne_eqb _ _ c.if-kind-eq-STEPS_32.false,
-)
+      le-ltb _ _ c.if-step-gt65535.false,
+      lt-ltb _ _
+          c.if-step-le255.false,
+      ne_eqb _ _ c.if-kind-eq-STEPS_32.false,
+    )

@@ -1,7 +1,7 @@
 use mathlib.Core.Path.{◌≡◌, refl, ap, ◌∙◌}
-use Prim.Native.Nat.{ℕ, ◌+◌, ◌-◌}
+use Prim.Native.Nat.{ℕ, ◌+◌}
 use native.Mathlib.Omega.{arith}
-use lib.ListN.{length, get_or, take, length-set}
+use lib.ListN.{get_or, take, length-set}
 use Rattle.base.specs.Lists.{total}
 use Rattle.base.specs.Paste.{pasted}
 use Rattle.names_writer.specs.Pieces.{start_places}
@@ -11,8 +11,7 @@ use Rattle.names_writer.proofs.table.put_starts.Goals as goal
 
 pub loop-k-init : goal.loop-k-init
 unfolding start_places total
-loop-k-init c =
-    (
+loop-k-init c = (
   omega arith,
   table_start c.args.places.now (λ k. c.args.start + total (take k c.args.sizes.now)),
   omega arith,

@@ -22,9 +22,9 @@ digit_run-other_run-requires t c =
     let run = run_at true a.name.now a.from c.requires.inside c.requires.starts c.run_end-end.result c.run_end-end.ensures in (
       omega (arith, run.more, run.inside),
       next_run true a.name.now a.from a.marks.now a.count c.requires c.run_end-end.result
-    (run_at true a.name.now a.from c.requires.inside c.requires.starts
-    c.run_end-end.result c.run_end-end.ensures)
-    (omega (arith, run.inside)),
+          (run_at true a.name.now a.from c.requires.inside c.requires.starts
+          c.run_end-end.result c.run_end-end.ensures)
+          (omega (arith, run.inside)),
     )
 
 pub digit_run-returns : goal.digit_run-returns
@@ -55,9 +55,9 @@ other_run-digit_run-requires t c =
     let run = run_at false a.name.now a.from c.requires.inside c.requires.starts c.run_end-end.result c.run_end-end.ensures in (
       omega (arith, run.more, run.inside),
       next_run false a.name.now a.from a.marks.now a.count c.requires c.run_end-end.result
-    (run_at false a.name.now a.from c.requires.inside c.requires.starts
-    c.run_end-end.result c.run_end-end.ensures)
-    (omega (arith, run.inside)),
+          (run_at false a.name.now a.from c.requires.inside c.requires.starts
+          c.run_end-end.result c.run_end-end.ensures)
+          (omega (arith, run.inside)),
     )
 
 pub other_run-returns : goal.other_run-returns

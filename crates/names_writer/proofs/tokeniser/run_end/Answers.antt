@@ -2,7 +2,6 @@ use mathlib.Core.Bool.{true, false, not, beq}
 use Rattle.base.proofs.Tests.{not-true, not-false, beq_same}
 use Rattle.names_writer.proofs.TokenLaws.{beq-other}
 use mathlib.Core.Path.{◌≡◌, refl, sym, ◌∙◌}
-use Prim.Native.Nat.{◌-◌}
 use native.Mathlib.Omega.{arith}
 use Rattle.names_writer.proofs.TokenLaws.{run_passes, run_stops, run_none}
 use Rattle.names_writer.proofs.tokeniser.run_end.Goals as goal

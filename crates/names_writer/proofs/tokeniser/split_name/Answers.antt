@@ -17,8 +17,7 @@ digit_run-requires c =
     c.is_digit.ensures ∙ c.if-is_digit.true)
 
 pub returns-then-is_digit : goal.returns-then-is_digit
-returns-then-is_digit c =
-    (
+returns-then-is_digit c = (
   c.digit_run.ensures.0,
   omega
       (arith, c.digit_run.ensures.1),
@@ -32,8 +31,7 @@ other_run-requires c =
     c.is_digit.ensures ∙ c.if-is_digit.false)
 
 pub returns : goal.returns
-returns c =
-    (
+returns c = (
   c.other_run.ensures.0,
   omega
       (arith, c.other_run.ensures.1),

@@ -1,6 +1,6 @@
 use mathlib.Core.Path.{◌≡◌, refl, sym, ap, subst, ◌∙◌}
 use mathlib.Core.List.{◌∷◌}
-use Prim.Native.Nat.{ℕ, ◌-◌, ◌≤◌}
+use Prim.Native.Nat.{ℕ, ◌≤◌}
 use native.Mathlib.Numerals.{add-one}
 use native.Mathlib.Omega.{arith}
 use lib.ListN.{length, get_or, take, drop}
@@ -101,15 +101,15 @@ put_row-requires c =
           (c.requires.count_value.0 ∙ n.counted)
           c.split_name.ensures.0;
       column_room = written-room (names_lent a.names.now a.ends.now) a.kinds.now a.marks.now
-            a.values.now
-            a.places.now l.values l.places a.count c.requires.count_value.1
-            c.requires.count_value.0 c.requires.places_lent l.invariant.4
-            (l.invariant.5 ∙ c.put_starts.auto.places) most;
+          a.values.now
+          a.places.now l.values l.places a.count c.requires.count_value.1
+          c.requires.count_value.0 c.requires.places_lent l.invariant.4
+          (l.invariant.5 ∙ c.put_starts.auto.places) most;
       pieces_fit = row_fits (names_lent a.names.now a.ends.now) (take a.start a.out.now) (drop
-            (columns_end a.start (names_lent a.names.now a.ends.now)) a.out.now)
-            l.i l.values l.places l.out l.invariant.2
-            (omega (arith, length_lent a.names.now a.ends.now)) a.kinds.now
-            c.requires.count_value.1 _ n.is a.count c.requires.count_value.0;
+          (columns_end a.start (names_lent a.names.now a.ends.now)) a.out.now)
+          l.i l.values l.places l.out l.invariant.2
+          (omega (arith, length_lent a.names.now a.ends.now)) a.kinds.now
+          c.requires.count_value.1 _ n.is a.count c.requires.count_value.0;
     }
 
 pub overflow_add-i : goal.overflow_add-i

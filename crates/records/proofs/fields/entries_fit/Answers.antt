@@ -1,7 +1,6 @@
 use mathlib.Core.Path.{sym, ◌∙◌}
-use Prim.Native.Nat.{◌+◌, ◌-◌, ◌<◌}
+use Prim.Native.Nat.{◌+◌, ◌<◌}
 use native.Mathlib.Omega.{arith}
-use mathlib.Core.Logic.{⊎_elim}
 use Rattle.records.proofs.FieldLaws.{rest_first, rest_none, rest_zero}
 use Rattle.records.proofs.FieldLaws.{rest_outside, rest_turn}
 use Rattle.records.proofs.fields.entries_fit.Goals as goal

@@ -1,5 +1,5 @@
 use mathlib.Core.Path.{◌≡◌, sym, ◌∙◌}
-use Prim.Native.Nat.{◌-◌, ◌≤◌, ◌<◌}
+use Prim.Native.Nat.{◌≤◌, ◌<◌}
 use native.Mathlib.Omega.{arith}
 use lib.ListN.{length}
 use Rattle.records.specs.declared.nlist.NPlace.TheVariants as places
@@ -32,7 +32,7 @@ inside c =
 
 -- A place that was refused.
 refused-is : (c : In-Refused)
-    → 
+    →
     place_at c.args.section.now c.args.size c.loop-k.next
     c.loop-k.place
     ≡ places.Refused c.in-Refused.number

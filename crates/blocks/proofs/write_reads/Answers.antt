@@ -1,0 +1,55 @@
+-- `blocks::write_reads` meets its contract: the walk is not refused, and writes all. Assumes
+-- nothing.
+-- Where the function begins, and what is known of the block there.
+use mathlib.Core.Path.{sym, ◌∙◌}
+use native.Mathlib.Omega.{arith}
+use Rattle.base.specs.Lists.{AllBytes}
+use Rattle.blocks.proofs.AcceptedLaws.{BlockParts, block-parts, all_found, block_writable}
+use Rattle.blocks.proofs.WriteLaws.{reads_not_refused, reads_written}
+use Rattle.blocks.proofs.write_reads.Goals as goal
+use Rattle.blocks.proofs.write_reads.Goals.{After-pair_table-pairs}
+
+bytes : (c : After-pair_table-pairs) → AllBytes c.args.input.now
+bytes c =
+    record { each = λ k h. omega (arith, c.type_inv.input k) }
+
+parts : (c : After-pair_table-pairs)
+    → (let a = c.args in
+    BlockParts a.bases a.reference.now a.input.now c.requires.divided)
+parts c = block-parts _ _ _ _ _ c.requires.answer
+
+pub walk_block-walked-requires : goal.walk_block-walked-requires
+walk_block-walked-requires c =
+    let a = c.args in
+    record {
+      block_ready = (parts (goal.at.walk_block-walked-requires c).After-pair_table-pairs).ready;
+      tables_made = λ yes'. (
+        record {
+          forward_is = c.word_table-forward.ensures;
+          reverse_is = c.word_table-reverse.ensures;
+          pairs_are = c.pair_table-pairs.ensures;
+        },
+        block_writable a.bases a.reference.now a.input.now c.requires.divided
+            (bytes (goal.at.walk_block-walked-requires c).After-pair_table-pairs) (parts (goal.at.walk_block-walked-requires c).After-pair_table-pairs) _ _ c.requires.letters_fit c.requires.ends_fit,
+      );
+    }
+
+pub returns-in_default : goal.returns-in_default
+returns-in_default c =
+    let a = c.args in
+    absurd
+    (reads_not_refused a.bases a.reference.now a.input.now c.requires.divided
+    a.bytes a.letters.now a.ends.now _
+    (all_found a.bases a.reference.now a.input.now c.requires.divided (bytes (goal.at.returns-in_default c).After-pair_table-pairs)
+    (parts (goal.at.returns-in_default c).After-pair_table-pairs))
+    _ _ (sym c.in_default.is ∙ c.walk_block-walked.ensures.answered))
+
+pub returns : goal.returns
+returns c =
+    let a = c.args in
+    λ divided answer.
+    reads_written a.bases a.reference.now a.input.now divided a.bytes
+    a.letters.now a.ends.now _
+    (all_found a.bases a.reference.now a.input.now divided (bytes (goal.at.returns c).After-pair_table-pairs)
+    (block-parts _ _ _ _ _ answer))
+    _ _ _ _ _ _ c.in-At.is c.walk_block-walked.ensures

@@ -1,0 +1,14 @@
+-- `encoder::faults::step_invalid` meets its contract. Assumes nothing.
+use mathlib.Core.Path.{sym}
+use Prim.Native.Nat.{◌-◌}
+use native.Mathlib.Omega.{arith}
+use Rattle.encoder.proofs.FaultLaws.{step-none, step-some}
+use Rattle.encoder.proofs.faults.step_invalid.Goals as goal
+
+pub returns-then-end-before : goal.returns-then-end-before
+returns-then-end-before c =
+    sym (step-none c.args.before c.args.end (omega (arith, c.if-end-before.true)))
+
+pub returns : goal.returns
+returns c =
+    sym (step-some c.args.before c.args.end (omega (arith, c.if-end-before.false)))
