@@ -4,7 +4,7 @@ use Rattle.std.proofs.Common.{length, ◌≡◌, ◌-◌, ◌*◌, ◌≤◌}
 use Rattle.corpus.proofs.writing.fill_numbers.Given as goal
 
 abbrev pub invariant-loop-i : goal.invariant-loop-i
-invariant-loop-i l = 
+invariant-loop-i l =
     (length l.numbers ≡ length l.initial.numbers) × (l.count ≤ length l.initial.numbers)
     × (4 * l.count ≤ length l.bytes) × (l.i ≤ l.count)
 
