@@ -29,6 +29,8 @@ TOGETHER = set(
     "lettersLent n-count nList n-reads name-ends nameEnds nameEndsLent namesLent names-stored noLength noZero oneMore "
     "positionIn rowFrom storedBytes withByte withN writtenAs".split()
 )
+# A definition that would have the name of a parameter beside which it is cited, which would hide it.
+OTHER = {"pairTable": "pair_words"}
 # Lemmas that would have the name of the function that they are about.
 LEMMAS = set("first_read left_in no_length one_more position_in row_from stored_bytes with_byte written_as".split())
 
@@ -53,6 +55,8 @@ def is_function_proof(path):
 
 def snake(word):
     """One part of a name, in snake case; a type keeps its capital."""
+    if word in OTHER:
+        return OTHER[word]
     if not word or not (word[0].islower() or word[0] == "_"):
         return word
     word = re.sub(r"\bgetD\b", "get_or", word)
