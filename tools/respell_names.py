@@ -20,6 +20,7 @@ DECLARED = re.compile(
     r"(?P<name>[A-Za-zα-ωℓ_][\w'′]*(?:-[\w'′]+)*)(?:\s*\{[^}]*\})*(?:\s*\([^)]*\))*\s*:(?:\s|$)"
 )
 LITERAL = re.compile(r"""(b?'(?:\\.|[^'\\\n])'(?!\w)|b?"(?:\\.|[^"\\])*")""")
+QUOTED = re.compile(r"""("(?:\\.|[^"\\\n])*")""")
 CAMEL = re.compile(r"[a-z0-9][A-Z]")
 KIT = "/opt/rattle/rattle"
 KITS = ("mathlib", "native", "lib", "Prim", "borrow")
@@ -164,7 +165,7 @@ def main():
                 text = re.sub(
                     r"(?<![\w.:'′-])(" + "|".join(sorted(LEMMAS)) + r")(?![\w'′-]| =)", r"\1_lem", text
                 )
-            parts = LITERAL.split(text) if path.endswith(".rt") else [text]
+            parts = (LITERAL if path.endswith(".rt") else QUOTED).split(text)
             for i in range(0, len(parts), 2):
                 parts[i] = TOKEN.sub(lambda t: turn.get(t.group(), t.group()), parts[i])
             new = "".join(parts)

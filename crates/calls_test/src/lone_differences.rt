@@ -1,6 +1,6 @@
 // The sums on a lone difference, as the fixed rule writes it: a read that takes the reference from
 // base 0 on and differs in its last letter alone, with fillers of A at steps of 63 before it. At 64
-// that makes 2 entries, at 127 three, at 1953 = 31 * 63 thirty_one.
+// that makes 2 entries, at 127 three, at 1953 = 31 * 63 thirty-one.
 use crate::block::{block_buffer, equal_reads, put_bytes_at, write_block};
 use crate::parts::first_bytes;
 use crate::read_lengths::run_block;
