@@ -22,12 +22,11 @@
 run:
 	@command -v rt >/dev/null 2>&1 \
 	  || { echo "run: the Rattle toolchain is missing: there is no command 'rt' on the PATH" >&2; exit 2; }
-	@rt check listing >&2
-	@if [ "$$(uname -m)" = x86_64 ]; then \
-	  cd crates/listing/data && ../../../target/bin/listing reference blocks | tee ../../../target/log/run.stdout; \
-	else cp target/log/listing.stdout target/log/run.stdout; cat target/log/run.stdout; fi
+	@mkdir -p target/bin target/log
+	@cd crates/listing && rt run -- data/reference data/blocks | tee ../../target/log/run.stdout
 	@tail -n 1 target/log/run.stdout | grep -q -E '^(end blocks|refused) ' \
 	  || { echo "run: the listing has no last line" >&2; exit 1; }
+	@cp crates/listing/out/listing target/bin/listing
 
 test:
 	@bash .ci/run
@@ -55,14 +54,16 @@ corpus:
 bench: library
 	@command -v cargo >/dev/null 2>&1 \
 	  || { echo "bench: Rust is missing: there is no command 'cargo' on the PATH" >&2; exit 2; }
-	@rt staticlib bench_exports
+	@cd crates/bench_exports && rt lib
+	@cp crates/bench_exports/out/libbench_exports.a target/staticlib/
 	@cargo run --release --quiet --offline --manifest-path rust/bench/Cargo.toml
 
 # The C interface as target/staticlib/libcapi.a, for C and for rust/ora.
 library:
 	@command -v rt >/dev/null 2>&1 \
 	  || { echo "library: the Rattle toolchain is missing: there is no command 'rt' on the PATH" >&2; exit 2; }
-	@rt staticlib capi
+	@cd crates/capi && rt lib
+	@mkdir -p target/staticlib && cp crates/capi/out/libcapi.a target/staticlib/
 
 SEED = 1
 COUNT = 1000000

@@ -13,7 +13,7 @@ missing() {
 }
 command -v "$cc" >/dev/null 2>&1 \
   || missing "a C compiler is missing: there is no command '$cc' on the PATH"
-[ -f "$library" ] || missing "$library is missing: run 'rt staticlib capi' first"
+[ -f "$library" ] || missing "$library is missing: run 'make library' first"
 mkdir -p "$folder" || exit 2
 
 for name in list round_trip; do

@@ -64,9 +64,9 @@ sed -n '/^enum ora_refusal {/,/^};/s/^ *\(ORA_[A-Z0-9_]* = [1-9][0-9]*\),\{0,1\}
       "reads READS letters LETTERS entries ENTRIES differences DIFFERENCES top TOP", pairs, " ")
     for (k = 1; pairs[k] != ""; k += 2) name[pairs[k]] = pairs[k + 1]
   }
-  / =$|^sectionSlots span = / { open = /^slots outcome|^sectionSlots span/; slot = -1 }
-  open && /^ |^sectionSlots span = / {
-    line = $0; sub(/^sectionSlots span = /, "", line)
+  / =$|^section_slots span = / { open = /^slots outcome|^section_slots span/; slot = -1 }
+  open && /^ |^section_slots span = / {
+    line = $0; sub(/^section_slots span = /, "", line)
     count = split(line, parts, /∷/)
     for (k = 1; k <= count; k++) {
       if (parts[k] ~ /^ *$/ || parts[k] ~ /replicate/) continue
@@ -74,7 +74,7 @@ sed -n '/^enum ora_refusal {/,/^};/s/^ *\(ORA_[A-Z0-9_]* = [1-9][0-9]*\),\{0,1\}
       fields = split(parts[k], words, /[^.a-z]+/)
       for (f = 1; f <= fields; f++) {
         field = words[f]
-        if (sub(/^[.]/, "", field) && field != "counts")
+        if (sub(/^.*[.]/, "", field))
           print "ORA_" (field in name ? name[field] : "no name of " field) " = " slot
       }
     }

@@ -20,6 +20,7 @@ DECLARED = re.compile(
     r"(?P<name>[A-Za-zα-ωℓ_][\w'′]*(?:-[\w'′]+)*)(?:\s*\{[^}]*\})*(?:\s*\([^)]*\))*\s*:(?:\s|$)"
 )
 LITERAL = re.compile(r"""(b?'(?:\\.|[^'\\\n])'(?!\w)|b?"(?:\\.|[^"\\])*")""")
+QUOTED = re.compile(r"""("(?:\\.|[^"\\\n])*")""")
 CAMEL = re.compile(r"[a-z0-9][A-Z]")
 KIT = "/opt/rattle/rattle"
 KITS = ("mathlib", "native", "lib", "Prim", "borrow")
@@ -29,6 +30,8 @@ TOGETHER = set(
     "lettersLent n-count nList n-reads name-ends nameEnds nameEndsLent namesLent names-stored noLength noZero oneMore "
     "positionIn rowFrom storedBytes withByte withN writtenAs".split()
 )
+# A definition that would have the name of a parameter beside which it is cited, which would hide it.
+OTHER = {"pairTable": "pair_words"}
 # Lemmas that would have the name of the function that they are about.
 LEMMAS = set("first_read left_in no_length one_more position_in row_from stored_bytes with_byte written_as".split())
 
@@ -53,6 +56,8 @@ def is_function_proof(path):
 
 def snake(word):
     """One part of a name, in snake case; a type keeps its capital."""
+    if word in OTHER:
+        return OTHER[word]
     if not word or not (word[0].islower() or word[0] == "_"):
         return word
     word = re.sub(r"\bgetD\b", "get_or", word)
@@ -160,7 +165,7 @@ def main():
                 text = re.sub(
                     r"(?<![\w.:'′-])(" + "|".join(sorted(LEMMAS)) + r")(?![\w'′-]| =)", r"\1_lem", text
                 )
-            parts = LITERAL.split(text) if path.endswith(".rt") else [text]
+            parts = (LITERAL if path.endswith(".rt") else QUOTED).split(text)
             for i in range(0, len(parts), 2):
                 parts[i] = TOKEN.sub(lambda t: turn.get(t.group(), t.group()), parts[i])
             new = "".join(parts)

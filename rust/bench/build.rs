@@ -1,4 +1,4 @@
-// Links the static library that `rt staticlib bench_exports` writes.
+// Links the static library that `make bench` writes.
 use std::path::Path;
 
 fn main() {
@@ -9,7 +9,7 @@ fn main() {
         panic!("bench: the static library is compiled for x86-64 alone");
     }
     if !library.exists() {
-        panic!("bench: target/staticlib/libbench_exports.a is missing: run `rt staticlib bench_exports` first");
+        panic!("bench: target/staticlib/libbench_exports.a is missing: run `make bench` first");
     }
     println!("cargo:rustc-link-search=native={}", folder.display());
     println!("cargo:rustc-link-lib=static=bench_exports");

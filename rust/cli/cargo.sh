@@ -20,13 +20,14 @@ command -v cargo >/dev/null 2>&1 \
   || { echo "cli: Rust is missing: there is no command 'cargo' on the PATH" >&2; exit 2; }
 
 # The library, if it is missing or older than a file that it is made of.
-if [ ! -f "$library" ] || find crates crates.txt -type f -newer "$library" | grep -q .; then
+if [ ! -f "$library" ] \
+  || find crates crates.txt -path 'crates/*/out' -prune -o -type f -newer "$library" -print | grep -q .; then
   command -v rt >/dev/null 2>&1 || {
     echo "cli: $library is missing or older than the crates, and" \
       "the Rattle toolchain that makes it is missing: there is no command 'rt' on the PATH" >&2
     exit 2
   }
-  rt staticlib capi || exit 2
+  (cd crates/capi && exec rt lib) && mkdir -p target/staticlib && cp crates/capi/out/libcapi.a "$library" || exit 2
 fi
 
 missing=
@@ -47,11 +48,11 @@ if [ -n "$missing" ]; then
 fi
 
 # Debian knows no checksum of many crates and says so where it should stand, which no lock file for others can hold.
-# So cargo gets the crates as they are installed, without checksums.
+# So cargo gets the crates as they are installed, without checksums. They are copied, since the gate takes no links.
 rm -rf "$crates"
 for crate in "$packages"/*/; do
   name=$(basename "$crate")
-  mkdir -p "$crates/$name" && ln -s "$crate"* "$crates/$name/" \
+  mkdir -p "$crates/$name" && cp -RL "$crate"* "$crates/$name/" \
     && echo '{"files":{}}' > "$crates/$name/.cargo-checksum.json" || exit 2
 done
 exec cargo "$command" --offline --manifest-path "$manifest" \

@@ -1,4 +1,4 @@
-// Links the static library that `rt staticlib capi` writes.
+// Links the static library that `make library` writes.
 use std::path::Path;
 use std::process::exit;
 
@@ -11,7 +11,7 @@ fn main() {
         exit(1);
     }
     if !library.exists() {
-        eprintln!("ora: target/staticlib/libcapi.a is missing: run `rt staticlib capi` first");
+        eprintln!("ora: target/staticlib/libcapi.a is missing: run `make library` first");
         exit(1);
     }
     println!("cargo:rustc-link-search=native={}", folder.display());

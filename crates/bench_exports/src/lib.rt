@@ -3,6 +3,7 @@
 // `requires` says: the benchmark makes its tables by bench_fill_words, its stretches inside, and
 // room by bench_sizes_length for at most 50,000 reads.
 #![tactic(auto)]
+
 ghost use Rattle.std.specs.Prelude.{◌≡◌, true, false, ◌+◌, ◌≤◌, length};
 ghost use Rattle.base.specs.Numbers.{non_negative};
 ghost use Rattle.base.specs.Paste.{pasted};

@@ -28,7 +28,6 @@ use Rattle.lengths.specs.Given.{lengths_found, lengths_number}
 use Rattle.format.specs.Outcome.{accepted_block}
 use Rattle.format.specs.Answered.{outcome_of_block}
 use Rattle.reads.specs.Walked.{counts_with, reads_counts, counts_of, Writable}
-use Rattle.reads.specs.Walked as walked
 use Rattle.reads.proofs.ReadLaws.{AllReads, reads_count, reads_found}
 use Rattle.reads.proofs.AllReadLaws.{all-writable, all_letters, all_counts, all_sizes, counts-sizes}
 use Rattle.reads.proofs.AllReadLaws.{length-letters_of}

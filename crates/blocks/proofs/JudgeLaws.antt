@@ -15,23 +15,20 @@ use Rattle.base.proofs.AnswerLaws.{refused_as-found, cond_yes, cond_no}
 use Rattle.base.proofs.ListLaws.{by_test}
 use Rattle.dna.specs.Reference.{reference_size_wrong, ReferenceFits}
 use Rattle.dna.specs.SizesAt.{lengths_given}
-use Rattle.dna.specs.Walk.{of_read, Walk, refused_at, section_walk}
+use Rattle.dna.specs.Walk.{of_read, refused_at, section_walk}
 use Rattle.dna.specs.declared.Counts.{Counts}
 use Rattle.format.specs.Header.{header_of, read_count}
 use Rattle.format.specs.Sections.{dna_number, size_number, n_number, section_of, block_length}
 use Rattle.format.specs.HeaderFaults.{header_faults}
 use Rattle.format.specs.Lengths.{dna_size_wrong, n_section_wrong, length_faults}
-use Rattle.format.specs.WellFormed.{BlockDivision}
 use Rattle.format.specs.Joined.{block_counts}
 use Rattle.format.specs.BlockAnswer.{header_refused, lengths_answer, dna_trailing, dna_answer}
-use Rattle.format.specs.BlockAnswer.{block_outcome, validated_block}
-use Rattle.format.specs.Answered.{outcome_of_block}
 use Rattle.format.specs.declared.BlockOutcome.TheVariants as outcomes
 use Rattle.format.proofs.AnswerNumbers.{after_lengths, past-reference, dna-reference}
 use Rattle.format.proofs.BlockLaws.{section-bytes}
 use Rattle.lengths.specs.Given.{lengths_found, lengths_number}
 use Rattle.lengths.proofs.GivenLaws.{LengthsKnown, known-zero}
-use Rattle.reads.specs.Walked.{counts_with, walk_answer}
+use Rattle.reads.specs.Walked.{walk_answer}
 use Rattle.reads.specs.declared.Read.{Read}
 use Rattle.reads.specs.declared.ReadCursor.{ReadCursor}
 use Rattle.reads.specs.declared.Walked.TheVariants as walks

@@ -18,7 +18,6 @@ use Rattle.format.specs.Header.{header_of, flag_set, names_flag, read_count}
 use Rattle.format.specs.Sections.{names_number, section_of}
 use Rattle.format.specs.BlockAnswer.{names_answer}
 use Rattle.names.specs.Judged.{judged}
-use Rattle.names.specs.declared.NamesJudged.{NamesJudged}
 use Rattle.names.specs.declared.NamesJudged.TheVariants as answers
 use Rattle.blocks.specs.Named.{names_judged, names_found, name_count}
 

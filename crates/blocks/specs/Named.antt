@@ -1,6 +1,6 @@
 -- The names of a block in the code's terms (02, Ticket 1).
-use Rattle.std.specs.Prelude.{ℕ, ◌≤◌, ◌≡◌, cond, false, length}
-use mathlib.Core.List.{List, [], flatten}
+use Rattle.std.specs.Prelude.{ℕ, ◌≤◌, ◌≡◌, cond, false}
+use mathlib.Core.List.{List, []}
 use Rattle.tokens.specs.NamesAt.{names_read}
 use Rattle.format.specs.Header.{header_of, flag_set, names_flag, read_count}
 use Rattle.format.specs.Sections.{names_number, section_of}

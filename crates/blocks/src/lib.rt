@@ -2,6 +2,7 @@
 // decoded into lent buffers, which 22 is decided for before the first byte is written. The
 // contracts of the public calls cite specs/BlockAnswer.antt of format; neither has a `requires`.
 #![tactic(auto)]
+
 ghost use Rattle.std.specs.Prelude.{◌≡◌, true, false, ◌||◌, length, ltb};
 ghost use mathlib.Core.List.{flatten, map};
 ghost use Rattle.base.specs.Answer.{found};

@@ -7,35 +7,39 @@
 use crate::block::{block_buffer, equal_reads, put_bytes_at, write_block};
 use crate::parts::first_bytes;
 use crate::show::{room_of, show_under};
+use std::io;
 
 // The bytes of the DNA section.
 const FULL_LENGTH: usize = 107;
 
-pub fn run_full() {
+pub fn run_full(rt: &impl Print) -> io::Result<()> {
     run_read(
+        rt,
         b"31 entries and 31 N, forward",
         b"\x00\x80\x80\x00\xf8\x0a\x00\x00\x00",
-    );
+    )?;
     run_read(
+        rt,
         b"31 entries and 31 N, reverse",
         b"\x00\x00\x80\x00\xf8\x2c\x00\x00\x00",
-    );
+    )
 }
 
 // A block of one read, with these group bytes, flag byte and position.
-fn run_read(label: &[u8], start: &[u8]) {
+fn run_read(rt: &impl Print, label: &[u8], start: &[u8]) -> io::Result<()> {
     let mut dna = [0u8; FULL_LENGTH];
     put_fields(start, &mut dna);
     put_n_list(&mut dna);
     let mut block = block_buffer();
     let length = write_block(equal_reads(1, 40, 40), &dna, b"", b"\x80", &mut block);
     show_under(
+        rt,
         label,
         64,
         &[0x1b; 16],
         first_bytes(&block, length),
         room_of(44, 2),
-    );
+    )
 }
 
 // The group bytes, flag byte and position; the entries: T on the first aligned letter, then a

@@ -22,34 +22,35 @@
 use crate::block::{BLOCK_CAPACITY, block_buffer, put_bytes_at, varied_reads, write_block};
 use crate::parts::first_bytes;
 use crate::show::{Room, room_of, show};
+use std::io;
 
 // The bytes of the DNA section: 44, 41 and 6 for the groups.
 const DNA_LENGTH: usize = 91;
 
 // The block with bytes after it and without its last byte; then with just enough room, and with too
 // little of each.
-pub fn run_groups() {
-    run_input(b"groups", 237);
-    run_input(b"groups and more bytes", BLOCK_CAPACITY);
-    run_input(b"groups cut", 236);
-    run_room(b"groups, room", room_of(77, 17));
-    run_room(b"22 letters", room_of(76, 17));
-    run_room(b"22 ends", room_of(77, 16));
-    run_room(b"22 no room", room_of(0, 0));
+pub fn run_groups(rt: &impl Print) -> io::Result<()> {
+    run_input(rt, b"groups", 237)?;
+    run_input(rt, b"groups and more bytes", BLOCK_CAPACITY)?;
+    run_input(rt, b"groups cut", 236)?;
+    run_room(rt, b"groups, room", room_of(77, 17))?;
+    run_room(rt, b"22 letters", room_of(76, 17))?;
+    run_room(rt, b"22 ends", room_of(77, 16))?;
+    run_room(rt, b"22 no room", room_of(0, 0))
 }
 
 // The first so many bytes of the block and the zeros after it, with room to spare.
-fn run_input(label: &[u8], most: usize) {
+fn run_input(rt: &impl Print, label: &[u8], most: usize) -> io::Result<()> {
     let mut block = block_buffer();
     write_groups(&mut block);
-    show(label, first_bytes(&block, most), room_of(80, 19));
+    show(rt, label, first_bytes(&block, most), room_of(80, 19))
 }
 
 // The block with this room.
-fn run_room(label: &[u8], room: Room) {
+fn run_room(rt: &impl Print, label: &[u8], room: Room) -> io::Result<()> {
     let mut block = block_buffer();
     let length = write_groups(&mut block);
-    show(label, first_bytes(&block, length), room);
+    show(rt, label, first_bytes(&block, length), room)
 }
 
 // Writes the block; the answer is its length.

@@ -9,6 +9,7 @@ use crate::groups::write_groups;
 use crate::lines::{end_line, put_number, put_text};
 use crate::outcomes::put_file_outcome;
 use crate::parts::first_bytes;
+use std::io;
 
 // More bytes than the file has.
 const FILE_CAPACITY: usize = 500;
@@ -24,109 +25,116 @@ const FILE_LENGTH: usize = 490;
 // for 5 letters.
 const LAST_STEP_AT: usize = 342;
 
-pub fn run_files() {
-    run_cuts();
-    run_references();
-    run_damaged();
-    run_alone();
+pub fn run_files(rt: &impl Print) -> io::Result<()> {
+    run_cuts(rt)?;
+    run_references(rt)?;
+    run_damaged(rt)?;
+    run_alone(rt)
 }
 
 // ---- The cases
 
 // The file, cut at each end and a byte off each.
-fn run_cuts() {
-    run_cut(0);
-    run_cut(1);
-    run_cut(131);
-    run_cut(132);
-    run_cut(133);
-    run_cut(368);
-    run_cut(369);
-    run_cut(370);
-    run_cut(489);
-    run_cut(490);
-    run_cut(491);
+fn run_cuts(rt: &impl Print) -> io::Result<()> {
+    run_cut(rt, 0)?;
+    run_cut(rt, 1)?;
+    run_cut(rt, 131)?;
+    run_cut(rt, 132)?;
+    run_cut(rt, 133)?;
+    run_cut(rt, 368)?;
+    run_cut(rt, 369)?;
+    run_cut(rt, 370)?;
+    run_cut(rt, 489)?;
+    run_cut(rt, 490)?;
+    run_cut(rt, 491)
 }
 
 // 1, of the empty file too; under no bases the empty file is accepted.
-fn run_references() {
-    run_file_under(b"empty file, wrong reference", 13, b"\x1b\x1b\xe4", b"");
-    run_file_under(b"empty file, no bases", 0, b"", b"");
+fn run_references(rt: &impl Print) -> io::Result<()> {
+    run_file_under(rt, b"empty file, wrong reference", 13, b"\x1b\x1b\xe4", b"")?;
+    run_file_under(rt, b"empty file, no bases", 0, b"", b"")?;
     let mut file = file_buffer();
     write_file(&mut file);
     run_file_under(
+        rt,
         b"wrong reference",
         12,
         b"\x1b\x1b",
         first_bytes(&file, FILE_LENGTH),
-    );
+    )
 }
 
 // Refusals in each block, and in two.
-fn run_damaged() {
-    run_byte(b"first magic", 0, 0);
-    run_byte(b"second magic", SECOND_AT, 0);
-    run_byte(b"third magic", THIRD_AT, 0);
-    run_byte(b"last step of the second block", LAST_STEP_AT, 3);
-    run_both(b"that step and the third magic");
+fn run_damaged(rt: &impl Print) -> io::Result<()> {
+    run_byte(rt, b"first magic", 0, 0)?;
+    run_byte(rt, b"second magic", SECOND_AT, 0)?;
+    run_byte(rt, b"third magic", THIRD_AT, 0)?;
+    run_byte(rt, b"last step of the second block", LAST_STEP_AT, 3)?;
+    run_both(rt, b"that step and the third magic")
 }
 
 // A block alone, and twice; and the block without reads.
-fn run_alone() {
-    run_example(b"one block", 132);
-    run_example(b"the same twice", 264);
+fn run_alone(rt: &impl Print) -> io::Result<()> {
+    run_example(rt, b"one block", 132)?;
+    run_example(rt, b"the same twice", 264)?;
     let mut file = file_buffer();
     put_empty(&mut file, 0);
-    run_file(b"no reads", first_bytes(&file, 121));
+    run_file(rt, b"no reads", first_bytes(&file, 121))
 }
 
 // ---- One case
 
 // The first so many bytes of the file.
-fn run_cut(end: usize) {
+fn run_cut(rt: &impl Print, end: usize) -> io::Result<()> {
     let mut file = file_buffer();
     write_file(&mut file);
-    put_text(b"file of");
-    put_number(end as u64);
-    run_file(b"", first_bytes(&file, end));
+    put_text(rt, b"file of")?;
+    put_number(rt, end as u64)?;
+    run_file(rt, b"", first_bytes(&file, end))
 }
 
 // The file with a byte replaced.
-fn run_byte(label: &[u8], at: usize, byte: u8) {
+fn run_byte(rt: &impl Print, label: &[u8], at: usize, byte: u8) -> io::Result<()> {
     let mut file = file_buffer();
     write_file(&mut file);
     put_bytes_at(&[byte], &mut file, at);
-    run_file(label, first_bytes(&file, FILE_LENGTH));
+    run_file(rt, label, first_bytes(&file, FILE_LENGTH))
 }
 
 // The file with the step and the third magic replaced: the first refusal counts.
-fn run_both(label: &[u8]) {
+fn run_both(rt: &impl Print, label: &[u8]) -> io::Result<()> {
     let mut file = file_buffer();
     write_file(&mut file);
     put_bytes_at(&[3], &mut file, LAST_STEP_AT);
     put_bytes_at(&[0], &mut file, THIRD_AT);
-    run_file(label, first_bytes(&file, FILE_LENGTH));
+    run_file(rt, label, first_bytes(&file, FILE_LENGTH))
 }
 
 // The first so many bytes of two blocks of the listing.
-fn run_example(label: &[u8], end: usize) {
+fn run_example(rt: &impl Print, label: &[u8], end: usize) -> io::Result<()> {
     let mut file = file_buffer();
     put_example(&mut file, 0);
     put_example(&mut file, SECOND_AT);
-    run_file(label, first_bytes(&file, end));
+    run_file(rt, label, first_bytes(&file, end))
 }
 
 // The line of a file under the reference ACGTACGTTGCA.
-fn run_file(label: &[u8], file: &[u8]) {
-    run_file_under(label, 12, b"\x1b\x1b\xe4", file);
+fn run_file(rt: &impl Print, label: &[u8], file: &[u8]) -> io::Result<()> {
+    run_file_under(rt, label, 12, b"\x1b\x1b\xe4", file)
 }
 
 // The same under any reference.
-fn run_file_under(label: &[u8], bases: u64, reference: &[u8], file: &[u8]) {
-    put_text(label);
-    put_text(b":");
-    put_file_outcome(ora::validate(bases, reference, file));
-    end_line();
+fn run_file_under(
+    rt: &impl Print,
+    label: &[u8],
+    bases: u64,
+    reference: &[u8],
+    file: &[u8],
+) -> io::Result<()> {
+    put_text(rt, label)?;
+    put_text(rt, b":")?;
+    put_file_outcome(rt, ora::validate(bases, reference, file))?;
+    end_line(rt)
 }
 
 // ---- The blocks

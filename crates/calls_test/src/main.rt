@@ -10,6 +10,7 @@
 // A file's line: its name and `accepted` with the blocks and the five sums, or `refused` with the
 // number, the block and the read.
 #![tactic(auto)]
+
 mod block;
 mod damage;
 mod damaged_dna;
@@ -26,14 +27,16 @@ mod show;
 mod sums;
 mod ten_reads;
 
-fn main() {
-    sums::run_sums();
-    read_lengths::run_lengths();
-    lone_differences::run_differences();
-    full_lists::run_full();
-    groups::run_groups();
-    damage::run_faults();
-    damaged_dna::run_faults();
-    joined_files::run_files();
-    sections::run_sections();
+use std::io;
+
+fn main(rt: HostRuntime) -> io::Result<()> {
+    sums::run_sums(&rt)?;
+    read_lengths::run_lengths(&rt)?;
+    lone_differences::run_differences(&rt)?;
+    full_lists::run_full(&rt)?;
+    groups::run_groups(&rt)?;
+    damage::run_faults(&rt)?;
+    damaged_dna::run_faults(&rt)?;
+    joined_files::run_files(&rt)?;
+    sections::run_sections(&rt)
 }

@@ -3,42 +3,43 @@ use crate::lines::{put_number, put_word};
 use dna::Counts;
 use format::{BlockOutcome, FileOutcome};
 use integers::wide64;
+use std::io;
 
 // An answer on a block: its length and counts, or the number and the read.
-pub fn put_block_outcome(outcome: BlockOutcome) {
+pub fn put_block_outcome(rt: &impl Print, outcome: BlockOutcome) -> io::Result<()> {
     match outcome {
-        BlockOutcome::Accepted(length, counts) => put_accepted(length, counts),
+        BlockOutcome::Accepted(length, counts) => put_accepted(rt, length, counts),
         BlockOutcome::Refused(number, read) => {
-            put_refused(number);
-            put_number(read);
+            put_refused(rt, number)?;
+            put_number(rt, read)
         }
     }
 }
 
 // An answer on a file: its blocks and sums, or the number, the block and the read.
-pub fn put_file_outcome(outcome: FileOutcome) {
+pub fn put_file_outcome(rt: &impl Print, outcome: FileOutcome) -> io::Result<()> {
     match outcome {
-        FileOutcome::Accepted(blocks, counts) => put_accepted(blocks, counts),
+        FileOutcome::Accepted(blocks, counts) => put_accepted(rt, blocks, counts),
         FileOutcome::Refused(number, block, read) => {
-            put_refused(number);
-            put_number(block);
-            put_number(read);
+            put_refused(rt, number)?;
+            put_number(rt, block)?;
+            put_number(rt, read)
         }
     }
 }
 
 // The length of a block or the number of blocks, then the counts.
-fn put_accepted(size: u64, counts: Counts) {
-    put_word(b"accepted");
-    put_number(size);
-    put_number(counts.reads);
-    put_number(counts.letters);
-    put_number(counts.entries);
-    put_number(counts.differences);
-    put_number(counts.top);
+fn put_accepted(rt: &impl Print, size: u64, counts: Counts) -> io::Result<()> {
+    put_word(rt, b"accepted")?;
+    put_number(rt, size)?;
+    put_number(rt, counts.reads)?;
+    put_number(rt, counts.letters)?;
+    put_number(rt, counts.entries)?;
+    put_number(rt, counts.differences)?;
+    put_number(rt, counts.top)
 }
 
-fn put_refused(number: u32) {
-    put_word(b"refused");
-    put_number(wide64(number));
+fn put_refused(rt: &impl Print, number: u32) -> io::Result<()> {
+    put_word(rt, b"refused")?;
+    put_number(rt, wide64(number))
 }

@@ -9,6 +9,7 @@ use crate::outcomes::put_block_outcome;
 use crate::parts::{bytes_from, first_bytes};
 use crate::show::{NAME_ENDS_LENT, NAMES_LENT, UNTOUCHED_END, UNTOUCHED_LETTER};
 use integers::size32;
+use std::io;
 
 // The bytes of the reference, and its bases.
 const REFERENCE_LENGTH: usize = 16_384;
@@ -20,13 +21,13 @@ const LETTERS_LENT: usize = 65_540;
 
 const ENDS_LENT: usize = 4;
 
-pub fn run_lengths() {
-    run_list();
-    run_words();
+pub fn run_lengths(rt: &impl Print) -> io::Result<()> {
+    run_list(rt)?;
+    run_words(rt)
 }
 
 // Lengths 5, 5, 300, at 0, 65530 and 65235.
-fn run_list() {
+fn run_list(rt: &impl Print) -> io::Result<()> {
     let mut block = block_buffer();
     let length = write_block(
         varied_reads(3, 310),
@@ -35,59 +36,81 @@ fn run_list() {
         b"\x00",
         &mut block,
     );
-    run_block(b"lengths 5 5 300", first_bytes(&block, length), 306);
+    run_block(rt, b"lengths 5 5 300", first_bytes(&block, length), 306)
 }
 
 // One read of 256, 32768 and 65535 letters, in words; and 256 in one byte, which is a length of 0.
-fn run_words() {
-    run_read(b"256", 256, b"\xff\xfe", b"\x00\x00\x00\x01");
-    run_read(b"32768", 32_768, b"\xff\x7f", b"\x00\x00\x00\x80\x00\x00");
-    run_read(b"65535", 65_535, b"\x00\x00", b"\x00\x00\x00\x80\xff\x7f");
-    run_read(b"256 in a byte", 256, b"\xff\xfe", b"\x00\x80\x00");
+fn run_words(rt: &impl Print) -> io::Result<()> {
+    run_read(rt, b"256", 256, b"\xff\xfe", b"\x00\x00\x00\x01")?;
+    run_read(
+        rt,
+        b"32768",
+        32_768,
+        b"\xff\x7f",
+        b"\x00\x00\x00\x80\x00\x00",
+    )?;
+    run_read(
+        rt,
+        b"65535",
+        65_535,
+        b"\x00\x00",
+        b"\x00\x00\x00\x80\xff\x7f",
+    )?;
+    run_read(rt, b"256 in a byte", 256, b"\xff\xfe", b"\x00\x80\x00")
 }
 
 // A block of one read of at least 4 letters, at a step from 0.
-fn run_read(label: &[u8], size: u32, step: &[u8], sizes: &[u8]) {
+fn run_read(rt: &impl Print, label: &[u8], size: u32, step: &[u8], sizes: &[u8]) -> io::Result<()> {
     if size < 4 {
-        return;
+        return Ok(());
     }
     let mut dna = [0x80, 0x80, 0x00, 0x80, 0x00, 0x00];
     put_bytes_at(step, &mut dna, 4);
     let mut block = block_buffer();
     let length = write_block(varied_reads(1, size), &dna, sizes, b"\x00", &mut block);
-    run_block(label, first_bytes(&block, length), size32(size - 4));
+    run_block(rt, label, first_bytes(&block, length), size32(size - 4))
 }
 
 // The line of a block, with eight letters from a place on.
-pub fn run_block(label: &[u8], input: &[u8], at: usize) {
+pub fn run_block(rt: &impl Print, label: &[u8], input: &[u8], at: usize) -> io::Result<()> {
     let mut reference = zero_reference();
     put_bytes_at(&[0x0f], &mut reference, REFERENCE_LENGTH - 1);
     let mut letters = untouched_letters();
-    decode_into(label, &reference, input, &mut letters, at);
+    decode_into(rt, label, &reference, input, &mut letters, at)
 }
 
 // The same with the reference and the buffer of letters given.
-fn decode_into(label: &[u8], reference: &[u8], input: &[u8], letters: &mut [u8], at: usize) {
+fn decode_into(
+    rt: &impl Print,
+    label: &[u8],
+    reference: &[u8],
+    input: &[u8],
+    letters: &mut [u8],
+    at: usize,
+) -> io::Result<()> {
     let mut ends = [UNTOUCHED_END; ENDS_LENT];
     let mut names = [UNTOUCHED_LETTER; NAMES_LENT];
     let mut name_ends = [UNTOUCHED_END; NAME_ENDS_LENT];
-    put_text(label);
-    put_text(b": decode");
-    put_block_outcome(ora::decode(
-        REFERENCE_BASES,
-        reference,
-        input,
-        letters,
-        &mut ends,
-        &mut names,
-        &mut name_ends,
-    ));
-    put_text(b", validate_block");
-    put_block_outcome(ora::validate_block(REFERENCE_BASES, reference, input));
-    put_text(b",");
-    put_word(first_bytes(bytes_from(letters, at), 8));
-    put_numbers(&ends);
-    end_line();
+    put_text(rt, label)?;
+    put_text(rt, b": decode")?;
+    put_block_outcome(
+        rt,
+        ora::decode(
+            REFERENCE_BASES,
+            reference,
+            input,
+            letters,
+            &mut ends,
+            &mut names,
+            &mut name_ends,
+        ),
+    )?;
+    put_text(rt, b", validate_block")?;
+    put_block_outcome(rt, ora::validate_block(REFERENCE_BASES, reference, input))?;
+    put_text(rt, b",")?;
+    put_word(rt, first_bytes(bytes_from(letters, at), 8))?;
+    put_numbers(rt, &ends)?;
+    end_line(rt)
 }
 
 fn untouched_letters() -> [u8; LETTERS_LENT]

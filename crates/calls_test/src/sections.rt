@@ -6,6 +6,7 @@ use crate::block::{BLOCK_CAPACITY, block_buffer, put_bytes_at};
 use crate::lines::{end_line, put_bytes, put_number, put_text};
 use crate::parts::first_bytes;
 use crate::show::{room_of, show};
+use std::io;
 
 // The bytes of the block: 124, then 10 3 2 4 4 1 5 0 1.
 const FULL_LENGTH: usize = 154;
@@ -14,60 +15,66 @@ const FULL_LENGTH: usize = 154;
 const ASKED_SECTIONS: u64 = 10;
 
 // The block, with bytes after it, without its last byte, and with another magic.
-pub fn run_sections() {
-    show_full();
-    run_input(b"sections", FULL_LENGTH, 0x49);
-    run_input(b"sections and more bytes", BLOCK_CAPACITY, 0x49);
-    run_input(b"sections cut", FULL_LENGTH - 1, 0x49);
-    run_input(b"sections, magic", FULL_LENGTH, 0x48);
+pub fn run_sections(rt: &impl Print) -> io::Result<()> {
+    show_full(rt)?;
+    run_input(rt, b"sections", FULL_LENGTH, 0x49)?;
+    run_input(rt, b"sections and more bytes", BLOCK_CAPACITY, 0x49)?;
+    run_input(rt, b"sections cut", FULL_LENGTH - 1, 0x49)?;
+    run_input(rt, b"sections, magic", FULL_LENGTH, 0x48)
 }
 
 // The block decoded, and its largest section number.
-fn show_full() {
+fn show_full(rt: &impl Print) -> io::Result<()> {
     let mut block = block_buffer();
     write_full(&mut block);
-    show(b"sections", first_bytes(&block, FULL_LENGTH), room_of(8, 3));
-    run_section(first_bytes(&block, FULL_LENGTH), 0xffff_ffff_ffff_ffff);
+    show(
+        rt,
+        b"sections",
+        first_bytes(&block, FULL_LENGTH),
+        room_of(8, 3),
+    )?;
+    run_section(rt, first_bytes(&block, FULL_LENGTH), 0xffff_ffff_ffff_ffff)
 }
 
 // The first so many bytes of the block and the zeros after it, with this first byte.
-fn run_input(label: &[u8], most: usize, first: u8) {
+fn run_input(rt: &impl Print, label: &[u8], most: usize, first: u8) -> io::Result<()> {
     let mut block = block_buffer();
     write_full(&mut block);
     put_bytes_at(&[first], &mut block, 0);
-    run_block(label, first_bytes(&block, most));
+    run_block(rt, label, first_bytes(&block, most))
 }
 
 // What is told of a block without its sections, then those.
-fn run_block(label: &[u8], input: &[u8]) {
-    put_block(label, input);
+fn run_block(rt: &impl Print, label: &[u8], input: &[u8]) -> io::Result<()> {
+    put_block(rt, label, input)?;
     let mut number: u64 = 0;
     while number < ASKED_SECTIONS {
-        run_section(input, number);
+        run_section(rt, input, number)?;
         number += 1;
     }
+    Ok(())
 }
 
 // The b_id and the length of a block.
-fn put_block(label: &[u8], input: &[u8]) {
-    put_text(label);
-    put_text(b": b_id");
-    put_number(ora::block_id(input));
-    put_text(b" length");
-    put_number(ora::block_length(input));
-    end_line();
+fn put_block(rt: &impl Print, label: &[u8], input: &[u8]) -> io::Result<()> {
+    put_text(rt, label)?;
+    put_text(rt, b": b_id")?;
+    put_number(rt, ora::block_id(input))?;
+    put_text(rt, b" length")?;
+    put_number(rt, ora::block_length(input))?;
+    end_line(rt)
 }
 
 // Where a section stands, and its bytes.
-fn run_section(input: &[u8], number: u64) {
-    put_text(b"section");
-    put_number(number);
-    put_text(b":");
+fn run_section(rt: &impl Print, input: &[u8], number: u64) -> io::Result<()> {
+    put_text(rt, b"section")?;
+    put_number(rt, number)?;
+    put_text(rt, b":")?;
     let span = ora::section_span(input, number);
-    put_number(span.offset);
-    put_number(span.size);
-    put_bytes(ora::section(input, number));
-    end_line();
+    put_number(rt, span.offset)?;
+    put_number(rt, span.size)?;
+    put_bytes(rt, ora::section(input, number))?;
+    end_line(rt)
 }
 
 // Writes the block into a buffer of zeros: two reads of 4 and 3 letters, ACGT perfect at 4, and raw

@@ -3,6 +3,7 @@ ghost use Rattle.std.specs.Prelude.{◌≡◌, length};
 
 use crate::lines::{end_line, put_numbers, put_text, put_word};
 use crate::outcomes::put_block_outcome;
+use std::io;
 
 // The most letters and ends that a case lends.
 const MAX_LETTERS: usize = 96;
@@ -34,30 +35,38 @@ pub fn room_of(letters: usize, ends: usize) -> Room {
 }
 
 // The line of a block under the reference ACGTACGTTGCA.
-pub fn show(label: &[u8], input: &[u8], room: Room) {
-    show_under(label, 12, &[0x1b, 0x1b, 0xe4], input, room);
+pub fn show(rt: &impl Print, label: &[u8], input: &[u8], room: Room) -> io::Result<()> {
+    show_under(rt, label, 12, &[0x1b, 0x1b, 0xe4], input, room)
 }
 
 // The same under any reference. No line where more is lent than there is.
-pub fn show_under(label: &[u8], bases: u64, reference: &[u8], input: &[u8], room: Room) {
+pub fn show_under(
+    rt: &impl Print,
+    label: &[u8],
+    bases: u64,
+    reference: &[u8],
+    input: &[u8],
+    room: Room,
+) -> io::Result<()> {
     let letter_room = room.letters;
     let end_room = room.ends;
     if MAX_LETTERS < letter_room {
-        return;
+        return Ok(());
     }
     if MAX_ENDS < end_room {
-        return;
+        return Ok(());
     }
     let mut letters = untouched_letters();
     let mut ends = untouched_ends();
     show_lent(
+        rt,
         label,
         bases,
         reference,
         input,
         &mut letters[..letter_room],
         &mut ends[..end_room],
-    );
+    )
 }
 
 fn untouched_letters() -> [u8; MAX_LETTERS]
@@ -73,50 +82,53 @@ fn untouched_ends() -> [u32; MAX_ENDS]
 }
 
 fn show_lent(
+    rt: &impl Print,
     label: &[u8],
     bases: u64,
     reference: &[u8],
     input: &[u8],
     letters: &mut [u8],
     ends: &mut [u32],
-) {
+) -> io::Result<()> {
     let mut names = [UNTOUCHED_LETTER; NAMES_LENT];
     let mut name_ends = [UNTOUCHED_END; NAME_ENDS_LENT];
-    put_text(label);
-    put_text(b": decode");
-    put_block_outcome(ora::decode(
-        bases,
-        reference,
-        input,
-        letters,
-        ends,
-        &mut names,
-        &mut name_ends,
-    ));
-    put_text(b", validate_block");
-    put_block_outcome(ora::validate_block(bases, reference, input));
-    put_text(b",");
-    put_buffers(letters, ends);
-    put_names(&names, &name_ends);
-    end_line();
+    put_text(rt, label)?;
+    put_text(rt, b": decode")?;
+    put_block_outcome(
+        rt,
+        ora::decode(
+            bases,
+            reference,
+            input,
+            letters,
+            ends,
+            &mut names,
+            &mut name_ends,
+        ),
+    )?;
+    put_text(rt, b", validate_block")?;
+    put_block_outcome(rt, ora::validate_block(bases, reference, input))?;
+    put_text(rt, b",")?;
+    put_buffers(rt, letters, ends)?;
+    put_names(rt, &names, &name_ends)?;
+    end_line(rt)
 }
 
 // Both buffers, or that they hold what they held before.
-fn put_buffers(letters: &[u8], ends: &[u32]) {
+fn put_buffers(rt: &impl Print, letters: &[u8], ends: &[u32]) -> io::Result<()> {
     if letters_untouched(letters) && ends_untouched(ends) {
-        put_word(b"untouched");
-        return;
+        return put_word(rt, b"untouched");
     }
-    put_word(letters);
-    put_numbers(ends);
+    put_word(rt, letters)?;
+    put_numbers(rt, ends)
 }
 
 // Names are stored in no block, so these stay: nothing is printed then.
-fn put_names(names: &[u8], name_ends: &[u32]) {
+fn put_names(rt: &impl Print, names: &[u8], name_ends: &[u32]) -> io::Result<()> {
     if letters_untouched(names) && ends_untouched(name_ends) {
-        return;
+        return Ok(());
     }
-    put_text(b", names touched");
+    put_text(rt, b", names touched")
 }
 
 fn letters_untouched(letters: &[u8]) -> bool {

@@ -2,6 +2,7 @@
 // length, and the answer sixteen numbers. Each is thin over the crate ora; the contracts cite the
 // same definitions, through specs/Slots.antt, and none has a `requires`.
 #![tactic(auto)]
+
 ghost use Rattle.std.specs.Prelude.{◌≡◌, ◌∷◌, replicate};
 ghost use Rattle.format.specs.Outcome.{refusal};
 ghost use Rattle.format.specs.Answered.{

@@ -6,6 +6,7 @@
 //   put AT BYTES                     writes over what stands at an index of the input
 //   cut LENGTH                       makes the input so long, with zeros where it was shorter
 #![tactic(auto)]
+
 ghost use Rattle.std.specs.Prelude.{◌≡◌, ◌+◌, ◌<◌, ◌≤◌, length};
 ghost use Rattle.case_blocks.specs.Built.{BuiltIn};
 

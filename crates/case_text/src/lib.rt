@@ -10,6 +10,7 @@
 // Values stand apart by one space. A byte is two hexadecimal digits, and ' makes bytes of the
 // characters after it; a number is decimal; *N behind a byte or a number repeats it; - is none.
 #![tactic(auto)]
+
 pub mod lines;
 pub mod print;
 pub mod values;

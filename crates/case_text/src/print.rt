@@ -1,64 +1,69 @@
 // What is printed: text, and words, numbers and bytes with a space before each; and buffers, which
 // are filled with a mark before a call, so that what it left is seen.
-use integers::{wide16, wide32, wide64};
-use libc::STDOUT_FILENO;
+use integers::wide64;
+use std::io;
 
 // What every lent byte and every lent end holds before a call.
 pub const UNTOUCHED_BYTE: u8 = b'.';
 
 pub const UNTOUCHED_END: u32 = 99;
 
-pub fn put_text(text: &[u8]) {
-    io::write_all(STDOUT_FILENO, text);
+pub fn put_text(rt: &impl Print, text: &[u8]) -> io::Result<()> {
+    rt.write_all(text)
 }
 
-pub fn put_word(word: &[u8]) {
-    put_text(b" ");
-    put_text(word);
+pub fn put_word(rt: &impl Print, word: &[u8]) -> io::Result<()> {
+    put_text(rt, b" ")?;
+    put_text(rt, word)
 }
 
-pub fn put_number(number: u64) {
-    put_text(b" ");
-    io::print_decimal(STDOUT_FILENO, number);
+pub fn put_number(rt: &impl Print, number: u64) -> io::Result<()> {
+    print!(rt; " {number}")
 }
 
-pub fn put_numbers(numbers: &[u32]) {
+pub fn put_numbers(rt: &impl Print, numbers: &[u32]) -> io::Result<()> {
     let mut i: usize = 0;
     while i < numbers.len() {
-        put_number(wide64(numbers[i]));
+        put_number(rt, wide64(numbers[i]))?;
         i += 1;
     }
+    Ok(())
 }
 
 // A byte as two hexadecimal digits.
-fn put_byte(byte: u8) {
-    put_text(b" ");
-    io::print_hex(STDOUT_FILENO, wide64(wide32(wide16(byte))), 2);
+fn put_byte(rt: &impl Print, byte: u8) -> io::Result<()> {
+    print!(rt; " {byte:02x}")
 }
 
-pub fn put_bytes(bytes: &[u8]) {
+pub fn put_bytes(rt: &impl Print, bytes: &[u8]) -> io::Result<()> {
     let mut i: usize = 0;
     while i < bytes.len() {
-        put_byte(bytes[i]);
+        put_byte(rt, bytes[i])?;
         i += 1;
     }
+    Ok(())
 }
 
-pub fn end_line() {
-    put_text(b"\n");
+pub fn end_line(rt: &impl Print) -> io::Result<()> {
+    put_text(rt, b"\n")
 }
 
 // ---- Buffers
 
 // Bytes, from a place on and so many of them, and ends; or that both hold what they held before.
-pub fn put_buffers(bytes: &[u8], ends: &[u32], from: usize, most: usize) {
-    put_text(b",");
+pub fn put_buffers(
+    rt: &impl Print,
+    bytes: &[u8],
+    ends: &[u32],
+    from: usize,
+    most: usize,
+) -> io::Result<()> {
+    put_text(rt, b",")?;
     if bytes_untouched(bytes) && ends_untouched(ends) {
-        put_word(b"untouched");
-        return;
+        return put_word(rt, b"untouched");
     }
-    put_word(part(bytes, from, most));
-    put_numbers(ends);
+    put_word(rt, part(bytes, from, most))?;
+    put_numbers(rt, ends)
 }
 
 pub fn bytes_untouched(bytes: &[u8]) -> bool {

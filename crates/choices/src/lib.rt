@@ -1,6 +1,7 @@
 // Which record the fixed rule makes of a read (01, The writer's fixed rule): more than 31 N, raw4;
 // the candidate's place where it is used; else raw. The contract cites specs/Choice.antt.
 #![tactic(auto)]
+
 ghost use Rattle.std.specs.Prelude.{◌≡◌, true, false, cond, ◌||◌, List, ℕ, ◌+◌, ◌-◌, ◌≤◌, ◌<◌, length, eqb};
 ghost use Rattle.dna.specs.Record.{max_entries};
 ghost use Rattle.dna.specs.Reference.{reference_size_wrong};

@@ -11,6 +11,7 @@ use header::sections::SIZE_SECTION;
 use integers::wide64;
 use lengths::blocks::lengths_fault;
 use lengths::{LengthStep, SizeCursor};
+use std::io;
 
 // What the lengths amount to.
 #[derive(Clone, Copy)]
@@ -21,52 +22,52 @@ struct Summary {
 }
 
 // The line of a case.
-pub fn run_lengths(index: u32, input: &[u8]) {
-    start_line(index, b"lengths");
+pub fn run_lengths(rt: &impl Print, index: u32, input: &[u8]) -> io::Result<()> {
+    start_line(rt, index, b"lengths")?;
     let number = header_fault(input);
     if number == 0 {
-        put_lengths(input);
+        put_lengths(rt, input)?;
     } else {
-        put_refusal(number);
+        put_refusal(rt, number)?;
     }
-    end_line();
+    end_line(rt)
 }
 
 // The columns of a block whose header earns no number.
-fn put_lengths(input: &[u8])
+fn put_lengths(rt: &impl Print, input: &[u8]) -> io::Result<()>
     requires { header_refused input.now ≡ false }
 {
     let number = lengths_fault(input);
     if number != 0 {
-        put_refusal(number);
-        return;
+        return put_refusal(rt, number);
     }
     let first = lengths::first_cursor(same_length(input), l_read(input));
     let reads = read_count(input);
     let summary = summarize(ora::section(input, SIZE_SECTION), first, reads);
-    put_outcome(0, reads, summary);
+    put_outcome(rt, 0, reads, summary)
 }
 
 // The columns of a refused case.
-fn put_refusal(number: u32) {
+fn put_refusal(rt: &impl Print, number: u32) -> io::Result<()> {
     put_outcome(
+        rt,
         number,
         0,
         Summary {
             sum: 0,
             hash: HASH_START,
         },
-    );
+    )
 }
 
 // The number, block 0 and read 0, the count, the sum and the hash.
-fn put_outcome(number: u32, count: u32, summary: Summary) {
-    put_column(wide64(number));
-    put_column(0);
-    put_column(0);
-    put_column(wide64(count));
-    put_column(summary.sum);
-    put_column(summary.hash);
+fn put_outcome(rt: &impl Print, number: u32, count: u32, summary: Summary) -> io::Result<()> {
+    put_column(rt, wide64(number))?;
+    put_column(rt, 0)?;
+    put_column(rt, 0)?;
+    put_column(rt, wide64(count))?;
+    put_column(rt, summary.sum)?;
+    put_column(rt, summary.hash)
 }
 
 // The sum and the hash of the lengths, read by read; of those before the first that is refused.

@@ -6,6 +6,7 @@ use crate::outcomes::{put_block_outcome, put_file_outcome};
 use cases::case_file::{CaseHeader, input_part, reference_part};
 use cases::hash::{HASH_START, hash_number, hash_of};
 use integers::size32;
+use std::io;
 
 // The most letters, ends and name bytes that a case lends; there are no more name ends than ends.
 const MAX_LETTERS: usize = 65_540;
@@ -20,47 +21,63 @@ const UNTOUCHED_BYTE: u8 = 0xee;
 const UNTOUCHED_END: u32 = 0xeeee_eeee;
 
 // A block judged.
-pub fn run_validate_block(index: u32, bytes: &[u8], header: CaseHeader) {
-    start_line(index, b"validate_block");
+pub fn run_validate_block(
+    rt: &impl Print,
+    index: u32,
+    bytes: &[u8],
+    header: CaseHeader,
+) -> io::Result<()> {
+    start_line(rt, index, b"validate_block")?;
     let reference = reference_part(bytes, header);
     let input = input_part(bytes, header);
-    put_block_outcome(ora::validate_block(header.bases, reference, input));
-    end_line();
+    put_block_outcome(rt, ora::validate_block(header.bases, reference, input))?;
+    end_line(rt)
 }
 
 // A file judged.
-pub fn run_validate(index: u32, bytes: &[u8], header: CaseHeader) {
-    start_line(index, b"validate");
+pub fn run_validate(
+    rt: &impl Print,
+    index: u32,
+    bytes: &[u8],
+    header: CaseHeader,
+) -> io::Result<()> {
+    start_line(rt, index, b"validate")?;
     let reference = reference_part(bytes, header);
     let input = input_part(bytes, header);
-    put_file_outcome(ora::validate(header.bases, reference, input));
-    end_line();
+    put_file_outcome(rt, ora::validate(header.bases, reference, input))?;
+    end_line(rt)
 }
 
 // A block decoded, with the hashes of the four buffers after the call; false where the case lends
 // more than there is.
-pub fn run_decode(index: u32, bytes: &[u8], header: CaseHeader) -> bool {
+pub fn run_decode(
+    rt: &impl Print,
+    index: u32,
+    bytes: &[u8],
+    header: CaseHeader,
+) -> io::Result<bool> {
     let letter_room = size32(header.letters_lent);
     let end_room = size32(header.ends_lent);
     let name_room = size32(header.names_lent);
     let name_end_room = size32(header.name_ends_lent);
     if MAX_LETTERS < letter_room {
-        return false;
+        return Ok(false);
     }
     if MAX_ENDS < end_room {
-        return false;
+        return Ok(false);
     }
     if MAX_NAMES < name_room {
-        return false;
+        return Ok(false);
     }
     if MAX_ENDS < name_end_room {
-        return false;
+        return Ok(false);
     }
     let mut letters = untouched_letters();
     let mut ends = untouched_ends();
     let mut names = untouched_names();
     let mut name_ends = untouched_ends();
     decode_into(
+        rt,
         index,
         bytes,
         header,
@@ -68,8 +85,8 @@ pub fn run_decode(index: u32, bytes: &[u8], header: CaseHeader) -> bool {
         &mut ends[..end_room],
         &mut names[..name_room],
         &mut name_ends[..name_end_room],
-    );
-    true
+    )?;
+    Ok(true)
 }
 
 fn untouched_letters() -> [u8; MAX_LETTERS]
@@ -92,6 +109,7 @@ fn untouched_ends() -> [u32; MAX_ENDS]
 
 // The line of a block that is decoded into these buffers.
 fn decode_into(
+    rt: &impl Print,
     index: u32,
     bytes: &[u8],
     header: CaseHeader,
@@ -99,22 +117,25 @@ fn decode_into(
     ends: &mut [u32],
     names: &mut [u8],
     name_ends: &mut [u32],
-) {
-    start_line(index, b"decode");
-    put_block_outcome(ora::decode(
-        header.bases,
-        reference_part(bytes, header),
-        input_part(bytes, header),
-        letters,
-        ends,
-        names,
-        name_ends,
-    ));
-    put_column(hash_of(letters));
-    put_column(hash_numbers(ends));
-    put_column(hash_of(names));
-    put_column(hash_numbers(name_ends));
-    end_line();
+) -> io::Result<()> {
+    start_line(rt, index, b"decode")?;
+    put_block_outcome(
+        rt,
+        ora::decode(
+            header.bases,
+            reference_part(bytes, header),
+            input_part(bytes, header),
+            letters,
+            ends,
+            names,
+            name_ends,
+        ),
+    )?;
+    put_column(rt, hash_of(letters))?;
+    put_column(rt, hash_numbers(ends))?;
+    put_column(rt, hash_of(names))?;
+    put_column(rt, hash_numbers(name_ends))?;
+    end_line(rt)
 }
 
 // The hash of some numbers, four bytes each.

@@ -9,6 +9,7 @@ use cases::case_file::{
 };
 use cases::hash::hash_of;
 use integers::{size32, u32_at};
+use std::io;
 
 // The most ends, name ends and positions that a case gives, and the most bytes that it lends.
 const MAX_ENDS: usize = 50_001;
@@ -24,22 +25,27 @@ const UNTOUCHED_BYTE: u8 = 0xee;
 
 // A block encoded, with the hash of the buffer after the call; false where the case gives or lends
 // more than there is.
-pub fn run_encode(index: u32, bytes: &[u8], header: CaseHeader) -> bool {
+pub fn run_encode(
+    rt: &impl Print,
+    index: u32,
+    bytes: &[u8],
+    header: CaseHeader,
+) -> io::Result<bool> {
     let end_count = size32(header.ends);
     let name_end_count = size32(header.name_ends);
     let position_count = size32(header.positions);
     let room = size32(header.block_lent);
     if MAX_ENDS < end_count {
-        return false;
+        return Ok(false);
     }
     if MAX_NAME_ENDS < name_end_count {
-        return false;
+        return Ok(false);
     }
     if MAX_POSITIONS < position_count {
-        return false;
+        return Ok(false);
     }
     if MAX_BLOCK < room {
-        return false;
+        return Ok(false);
     }
     let mut ends = no_ends();
     let mut name_ends = no_name_ends();
@@ -49,6 +55,7 @@ pub fn run_encode(index: u32, bytes: &[u8], header: CaseHeader) -> bool {
     fill_numbers(&mut name_ends, name_ends_part(bytes, header));
     fill_numbers(&mut positions, positions_part(bytes, header));
     encode_into(
+        rt,
         index,
         bytes,
         header,
@@ -56,8 +63,8 @@ pub fn run_encode(index: u32, bytes: &[u8], header: CaseHeader) -> bool {
         &name_ends[..name_end_count],
         &positions[..position_count],
         &mut out[..room],
-    );
-    true
+    )?;
+    Ok(true)
 }
 
 // Ends and name ends that are given but not stored are 0.
@@ -106,6 +113,7 @@ fn smaller(a: usize, b: usize) -> usize
 
 // The line of a block that is encoded into this buffer.
 fn encode_into(
+    rt: &impl Print,
     index: u32,
     bytes: &[u8],
     header: CaseHeader,
@@ -113,23 +121,26 @@ fn encode_into(
     name_ends: &[u32],
     positions: &[u32],
     out: &mut [u8],
-) {
-    start_line(index, b"encode");
-    put_encode_outcome(ora::encode(
-        header.bases,
-        reference_part(bytes, header),
-        letters_part(bytes, header),
-        ends,
-        names_part(bytes, header),
-        name_ends,
-        positions,
-        strands_part(bytes, header),
-        lefts_part(bytes, header),
-        rights_part(bytes, header),
-        header.b_id,
-        header.c_time,
-        out,
-    ));
-    put_column(hash_of(out));
-    end_line();
+) -> io::Result<()> {
+    start_line(rt, index, b"encode")?;
+    put_encode_outcome(
+        rt,
+        ora::encode(
+            header.bases,
+            reference_part(bytes, header),
+            letters_part(bytes, header),
+            ends,
+            names_part(bytes, header),
+            name_ends,
+            positions,
+            strands_part(bytes, header),
+            lefts_part(bytes, header),
+            rights_part(bytes, header),
+            header.b_id,
+            header.c_time,
+            out,
+        ),
+    )?;
+    put_column(rt, hash_of(out))?;
+    end_line(rt)
 }

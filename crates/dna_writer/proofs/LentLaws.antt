@@ -3,13 +3,12 @@
 use mathlib.Core.Path.{◌≡◌, refl, sym, ap, ◌∙◌, subst}
 use Prim.Native.Nat.{ℕ, zero, suc, ◌+◌, ◌-◌, ◌≤◌, ◌<◌}
 use native.Mathlib.Omega.{arith}
-use mathlib.Core.Bool.{Bool, true, false, not, ◌||◌}
+use mathlib.Core.Bool.{false, not, ◌||◌}
 use mathlib.Core.List.{List, [], ◌∷◌}
 use lib.ListN.{length, get_or}
 use lib.Dec.{ltb, eqb}
 use borrow.Author.Tests.{eqb-true, ltb-false}
 use Rattle.base.specs.Lists.{any, member, steps_from}
-use Rattle.base.specs.Faults.{Fault}
 use Rattle.base.proofs.AnswerLaws.{any-first_number}
 use Rattle.base.proofs.Tests.{or-neither, any_none, not-false}
 use Rattle.dna.specs.Reference.{alphabet, reference_size_wrong}

@@ -2,9 +2,9 @@
 use mathlib.Core.Path.{◌≡◌, refl, sym, ap, ap₂, ◌∙◌}
 use Prim.Native.Nat.{ℕ, zero, suc, ◌+◌, ◌-◌, ◌*◌, ◌/◌, ◌≤◌, ◌<◌, min}
 use native.Mathlib.Omega.{arith}
-use mathlib.Core.List.{List, [], ◌∷◌, ◌++◌, map, flat_map}
-use lib.ListN.{length, get_or, take, drop, length-drop, length-append}
-use Rattle.base.specs.Lists.{build, part}
+use mathlib.Core.List.{List, [], ◌∷◌, map, flat_map}
+use lib.ListN.{length, get_or, drop, length-drop, length-append}
+use Rattle.base.specs.Lists.{part}
 use Rattle.base.specs.Groups.{group_count}
 use Rattle.base.proofs.ListLaws.{by_order, length-build}
 use Rattle.dna.specs.Alignment.{position_after}

@@ -1,12 +1,12 @@
 -- The records of an input read by read, and their sections group by group. Assumes nothing.
 use mathlib.Core.Path.{◌≡◌, refl, sym, ap, ap₂, ◌∙◌}
-use Prim.Native.Nat.{ℕ, zero, suc, ◌+◌, ◌-◌, ◌*◌, ◌/◌, ◌≤◌, ◌<◌}
+use Prim.Native.Nat.{ℕ, ◌+◌, ◌*◌, ◌/◌, ◌<◌}
 use native.Mathlib.Numerals.{add-one}
 use native.Mathlib.Omega.{arith}
 use mathlib.Core.List.{List, [], ◌∷◌, ◌++◌, map, flat_map, append_assoc}
-use lib.ListN.{length, get_or, take, drop, length-append, length-map, length-drop, take-append-drop}
+use lib.ListN.{length, take, drop, length-append, length-map, length-drop, take-append-drop}
 use lib.Seq.{drop-cons}
-use Rattle.base.specs.Lists.{build, total}
+use Rattle.base.specs.Lists.{build}
 use Rattle.base.specs.Groups.{in_groups, group_count, flag_byte}
 use Rattle.base.proofs.ListLaws.{length-build, get_or-build}
 use Rattle.base.proofs.GroupLaws.{in_groups-nil, in_groups-cons, length-in_groups, by-groups}

@@ -2,6 +2,7 @@
 // and their bytes group by group. The contracts cite specs/Section.antt; each `requires` says that
 // what is lent earns none of 1 and 30 to 33 (specs/Lent.antt), and that there is room.
 #![tactic(auto)]
+
 ghost use Rattle.std.specs.Prelude.{◌≡◌, true, false, ◌+◌, ◌^◌, ◌≤◌, length};
 ghost use mathlib.Core.List.{flat_map};
 ghost use Rattle.base.specs.Paste.{pasted};

@@ -5,6 +5,7 @@
 ghost use Rattle.std.specs.Prelude.{◌≡◌, length};
 
 use crate::show::{UNTOUCHED, show};
+use std::io;
 
 const READ_LENGTH: usize = 2_000;
 
@@ -12,19 +13,20 @@ const REFERENCE_SIZE: usize = 500;
 
 const MAX_BLOCK: usize = 656;
 
-pub fn run_differences() {
-    run_difference(b"difference at 63", 63);
-    run_difference(b"difference at 64", 64);
-    run_difference(b"difference at 126", 126);
-    run_difference(b"difference at 127", 127);
-    run_difference(b"difference at 1953", 1953);
-    run_difference(b"difference at 1954", 1954);
+pub fn run_differences(rt: &impl Print) -> io::Result<()> {
+    run_difference(rt, b"difference at 63", 63)?;
+    run_difference(rt, b"difference at 64", 64)?;
+    run_difference(rt, b"difference at 126", 126)?;
+    run_difference(rt, b"difference at 127", 127)?;
+    run_difference(rt, b"difference at 1953", 1953)?;
+    run_difference(rt, b"difference at 1954", 1954)
 }
 
-fn run_difference(label: &[u8], place: usize) {
+fn run_difference(rt: &impl Print, label: &[u8], place: usize) -> io::Result<()> {
     let letters = letters_with(place);
     let mut out = untouched_block();
     show(
+        rt,
         label,
         2_000,
         &bases_a(),
@@ -37,7 +39,7 @@ fn run_difference(label: &[u8], place: usize) {
         &[0u8],
         &[0u8],
         &mut out,
-    );
+    )
 }
 
 // The read with its difference; without one where the place is past its end.

@@ -6,12 +6,15 @@
 // entries, differences and top; or `refused` with the number, and whether the buffer holds what it
 // held before.
 #![tactic(auto)]
+
 mod differences;
 mod lines;
 mod refusals;
 mod show;
 
-fn main() {
-    differences::run_differences();
-    refusals::run_refusals();
+use std::io;
+
+fn main(rt: HostRuntime) -> io::Result<()> {
+    differences::run_differences(&rt)?;
+    refusals::run_refusals(&rt)
 }

@@ -2,6 +2,7 @@
 use crate::lines::{end_line, put_bytes, put_number, put_text};
 use format::{BlockOutcome, EncodeOutcome};
 use integers::wide64;
+use std::io;
 
 // What every lent byte holds before the call.
 pub const UNTOUCHED: u8 = 0xee;
@@ -11,6 +12,7 @@ const DNA_SECTION: u64 = 0;
 // The line of a written block: its length, its DNA section up to 16 bytes, and what decoding counts
 // of it; or of a refusal, and whether the buffer holds what it held before.
 pub fn show(
+    rt: &impl Print,
     label: &[u8],
     bases: u64,
     reference: &[u8],
@@ -23,49 +25,54 @@ pub fn show(
     lefts: &[u8],
     rights: &[u8],
     out: &mut [u8],
-) {
-    put_text(label);
+) -> io::Result<()> {
+    put_text(rt, label)?;
     match ora::encode(
         bases, reference, letters, ends, names, name_ends, positions, strands, lefts, rights, 7, 0,
         out,
     ) {
-        EncodeOutcome::Written(bytes) => put_block(bases, reference, bytes, out),
-        EncodeOutcome::Refused(number) => put_refusal(number, out),
+        EncodeOutcome::Written(bytes) => put_block(rt, bases, reference, bytes, out)?,
+        EncodeOutcome::Refused(number) => put_refusal(rt, number, out)?,
     }
-    end_line();
+    end_line(rt)
 }
 
-fn put_block(bases: u64, reference: &[u8], bytes: u64, out: &[u8]) {
-    put_text(b": written");
-    put_number(bytes);
-    put_text(b", dna");
-    put_bytes(first_bytes(ora::section(out, DNA_SECTION), 16));
-    put_text(b", read back");
+fn put_block(
+    rt: &impl Print,
+    bases: u64,
+    reference: &[u8],
+    bytes: u64,
+    out: &[u8],
+) -> io::Result<()> {
+    put_text(rt, b": written")?;
+    put_number(rt, bytes)?;
+    put_text(rt, b", dna")?;
+    put_bytes(rt, first_bytes(ora::section(out, DNA_SECTION), 16))?;
+    put_text(rt, b", read back")?;
     match ora::validate_block(bases, reference, out) {
         BlockOutcome::Accepted(length, counts) => {
-            put_number(length);
-            put_number(counts.reads);
-            put_number(counts.letters);
-            put_number(counts.entries);
-            put_number(counts.differences);
-            put_number(counts.top);
+            put_number(rt, length)?;
+            put_number(rt, counts.reads)?;
+            put_number(rt, counts.letters)?;
+            put_number(rt, counts.entries)?;
+            put_number(rt, counts.differences)?;
+            put_number(rt, counts.top)
         }
         BlockOutcome::Refused(number, read) => {
-            put_text(b" refused");
-            put_number(wide64(number));
-            put_number(read);
+            put_text(rt, b" refused")?;
+            put_number(rt, wide64(number))?;
+            put_number(rt, read)
         }
     }
 }
 
-fn put_refusal(number: u32, out: &[u8]) {
-    put_text(b": refused");
-    put_number(wide64(number));
+fn put_refusal(rt: &impl Print, number: u32, out: &[u8]) -> io::Result<()> {
+    put_text(rt, b": refused")?;
+    put_number(rt, wide64(number))?;
     if untouched(out) {
-        put_text(b", untouched");
-        return;
+        return put_text(rt, b", untouched");
     }
-    put_text(b", written to");
+    put_text(rt, b", written to")
 }
 
 fn untouched(out: &[u8]) -> bool {

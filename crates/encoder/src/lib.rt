@@ -2,6 +2,7 @@
 // is lent, then the lengths of the sections, then their bytes. The contract of the public call
 // cites specs/EncodeAnswer.antt of format; it has no `requires`.
 #![tactic(auto)]
+
 ghost use Rattle.std.specs.Prelude.{◌≡◌, false, cond, List, ℕ, ◌+◌, ◌≤◌, length, get_or};
 ghost use Rattle.base.specs.Lists.{steps_from};
 ghost use Rattle.base.specs.Groups.{group_count};

@@ -1,14 +1,14 @@
 -- Judging the rest of a file after some blocks: at the start, at each block, at the end. Assumes
 -- nothing.
-use Rattle.std.proofs.Common.{◌≡◌, ℕ, zero, suc, ◌+◌, ◌%◌, ◌^◌, ◌<◌, ◌≤◌, true, false, List, [], ◌∷◌, length, drop, sym, refl, ap, ◌∙◌, ap₂, add-zero, zero-add, arith}
+use Rattle.std.proofs.Common.{◌≡◌, ℕ, suc, ◌+◌, ◌%◌, ◌^◌, ◌<◌, ◌≤◌, false, List, [], ◌∷◌, length, drop, sym, refl, ap, ◌∙◌, ap₂, add-zero, zero-add, arith}
 use Rattle.base.specs.Lists.{AllBytes}
 use Rattle.base.specs.Answer.{Answer, found, refused, and_then, refused_as}
-use Rattle.base.proofs.AnswerLaws.{and_then-found, and_then_stops, refused_as-found, refused_as_stops, cond_no, cond_yes}
+use Rattle.base.proofs.AnswerLaws.{and_then-found, refused_as-found, cond_no}
 use Rattle.base.proofs.AnswerLaws.{Refuses, refuses-with}
 use Rattle.dna.specs.Reference.{reference_size_wrong}
 use Rattle.dna.specs.Counts.{Counted, zero_counts, plus, sum_counts}
 use Rattle.dna.proofs.PlusLaws.{none-plus, plus_none}
-use Rattle.dna.specs.Walk.{ReadRefusal, Walk, of_read}
+use Rattle.dna.specs.Walk.{Walk, of_read}
 use Rattle.format.specs.Header.{header_of, read_count}
 use Rattle.format.specs.WellFormed.{BlockDivision}
 use Rattle.format.specs.Joined.{block_counts, file_counts}

@@ -2,6 +2,7 @@
 // bytes, nothing copied. The contract of the public call cites specs/FileAnswer.antt of format; it
 // has no `requires`.
 #![tactic(auto)]
+
 ghost use Rattle.std.specs.Prelude.{◌≡◌, ◌==◌};
 ghost use Rattle.dna.specs.Counts.{zero_counts};
 ghost use Rattle.format.specs.Answered.{counted_of, outcome_of_file, accepts_file};

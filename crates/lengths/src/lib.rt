@@ -2,6 +2,7 @@
 // the walk that validates them all; blocks.rt takes them from a block, write.rt writes a size
 // section. The contracts cite specs/Cursor.antt and specs/Given.antt; none has a `requires`.
 #![tactic(auto)]
+
 ghost use Rattle.std.specs.Prelude.{◌≡◌, cond, ◌+◌, length, ltb};
 ghost use Rattle.base.specs.Numbers.{non_negative};
 ghost use Rattle.dna.specs.SizesAt.{sizes_answer, fixed_lengths, lengths_given};

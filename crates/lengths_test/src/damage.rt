@@ -5,6 +5,7 @@ use crate::lines::{end_line, put_number, start_line};
 use crate::parts::first_bytes;
 use header::faults::{ENCRYPTED_FLAG, FALLBACK_FLAG, SAME_LENGTH_FLAG};
 use integers::{put_u16, put_u32, wide64};
+use std::io;
 
 // Offsets of header fields.
 const MAGIC_AT: usize = 0;
@@ -30,150 +31,159 @@ const MINUS_ONE: u32 = 0xffff_ffff;
 
 const LOWEST: u32 = 0x8000_0000;
 
-pub fn run_faults() {
-    run_good();
-    run_kind_faults();
-    run_field_faults();
-    run_truncated();
-    run_size_faults();
-    run_flag_bits();
-    run_section_ends();
-    run_same_length();
-    run_raw_sizes();
+pub fn run_faults(rt: &impl Print) -> io::Result<()> {
+    run_good(rt)?;
+    run_kind_faults(rt)?;
+    run_field_faults(rt)?;
+    run_truncated(rt)?;
+    run_size_faults(rt)?;
+    run_flag_bits(rt)?;
+    run_section_ends(rt)?;
+    run_same_length(rt)?;
+    run_raw_sizes(rt)
 }
 
 // ---- The cases
 
 // Copies that are good: the block, the last version, and a negative l_read that is not used.
-fn run_good() {
-    run_input(b"whole block", BLOCK_CAPACITY);
-    run_short_field(b"version 29999", VERSION_AT, 29999);
-    run_field(b"l_read -1, unused", L_READ_AT, MINUS_ONE);
+fn run_good(rt: &impl Print) -> io::Result<()> {
+    run_input(rt, b"whole block", BLOCK_CAPACITY)?;
+    run_short_field(rt, b"version 29999", VERSION_AT, 29999)?;
+    run_field(rt, b"l_read -1, unused", L_READ_AT, MINUS_ONE)
 }
 
 // 2 to 4.
-fn run_kind_faults() {
-    run_input(b"no bytes", 0);
-    run_input(b"120 bytes", 120);
-    run_short_field(b"magic 49 7d", MAGIC_AT, 0x7d49);
-    run_short_field(b"version 20504", VERSION_AT, 20504);
-    run_short_field(b"version 30000", VERSION_AT, 30000);
+fn run_kind_faults(rt: &impl Print) -> io::Result<()> {
+    run_input(rt, b"no bytes", 0)?;
+    run_input(rt, b"120 bytes", 120)?;
+    run_short_field(rt, b"magic 49 7d", MAGIC_AT, 0x7d49)?;
+    run_short_field(rt, b"version 20504", VERSION_AT, 20504)?;
+    run_short_field(rt, b"version 30000", VERSION_AT, 30000)
 }
 
 // 5 to 7.
-fn run_field_faults() {
-    run_field(b"l_header 120", L_HEADER_AT, 120);
-    run_field(b"l_header -1", L_HEADER_AT, MINUS_ONE);
-    run_field(b"l_header -2147483648", L_HEADER_AT, LOWEST);
-    run_field(b"flag 0x40", FLAGS_AT, ENCODER_FLAG + FALLBACK_FLAG);
-    run_field(b"flag 0x80", FLAGS_AT, ENCODER_FLAG + ENCRYPTED_FLAG);
-    run_field(b"n_reads 50001", N_READS_AT, 50_001);
-    run_field(b"n_reads -1", N_READS_AT, MINUS_ONE);
+fn run_field_faults(rt: &impl Print) -> io::Result<()> {
+    run_field(rt, b"l_header 120", L_HEADER_AT, 120)?;
+    run_field(rt, b"l_header -1", L_HEADER_AT, MINUS_ONE)?;
+    run_field(rt, b"l_header -2147483648", L_HEADER_AT, LOWEST)?;
+    run_field(rt, b"flag 0x40", FLAGS_AT, ENCODER_FLAG + FALLBACK_FLAG)?;
+    run_field(rt, b"flag 0x80", FLAGS_AT, ENCODER_FLAG + ENCRYPTED_FLAG)?;
+    run_field(rt, b"n_reads 50001", N_READS_AT, 50_001)?;
+    run_field(rt, b"n_reads -1", N_READS_AT, MINUS_ONE)
 }
 
 // 8.
-fn run_truncated() {
-    run_input(b"121 bytes", 121);
-    run_input(b"212 bytes", 212);
-    run_field(b"l_header 122", L_HEADER_AT, 122);
-    run_field(b"l_DNA 87", L_DNA_AT, 87);
-    run_field(b"l_m3 4294967295", L_M3_AT, 0xffff_ffff);
+fn run_truncated(rt: &impl Print) -> io::Result<()> {
+    run_input(rt, b"121 bytes", 121)?;
+    run_input(rt, b"212 bytes", 212)?;
+    run_field(rt, b"l_header 122", L_HEADER_AT, 122)?;
+    run_field(rt, b"l_DNA 87", L_DNA_AT, 87)?;
+    run_field(rt, b"l_m3 4294967295", L_M3_AT, 0xffff_ffff)
 }
 
 // 9: sizes that are not lengths.
-fn run_size_faults() {
-    run_sizes(b"word 32769 at the end", b"\x40\x80\x05\x01\x80");
-    run_sizes(b"word 32769 before a word", b"\x40\x80\x05\x01\x80\x00\x00");
-    run_sizes(b"length 0 in a byte", b"\x40\x80\x00\x2c\x01");
-    run_sizes(b"length 0 in a word", b"\x40\x80\x05\x00\x00");
+fn run_size_faults(rt: &impl Print) -> io::Result<()> {
+    run_sizes(rt, b"word 32769 at the end", b"\x40\x80\x05\x01\x80")?;
     run_sizes(
+        rt,
+        b"word 32769 before a word",
+        b"\x40\x80\x05\x01\x80\x00\x00",
+    )?;
+    run_sizes(rt, b"length 0 in a byte", b"\x40\x80\x00\x2c\x01")?;
+    run_sizes(rt, b"length 0 in a word", b"\x40\x80\x05\x00\x00")?;
+    run_sizes(
+        rt,
         b"length 100001",
         b"\x40\x80\x05\x00\x80\x00\x80\x00\x80\xa1\x06",
-    );
+    )
 }
 
 // 9: flag bits.
-fn run_flag_bits() {
-    run_sizes(b"both bits of a read", b"\x40\xc0\x05\x2c\x01");
-    run_sizes(b"same bit of the first read", b"\xc0\x00\x2c\x01");
-    run_sizes(b"same bit past the last read", b"\x50\x80\x05\x2c\x01");
-    run_sizes(b"byte-size bit past the last read", b"\x40\x81\x05\x2c\x01");
+fn run_flag_bits(rt: &impl Print) -> io::Result<()> {
+    run_sizes(rt, b"both bits of a read", b"\x40\xc0\x05\x2c\x01")?;
+    run_sizes(rt, b"same bit of the first read", b"\xc0\x00\x2c\x01")?;
+    run_sizes(rt, b"same bit past the last read", b"\x50\x80\x05\x2c\x01")?;
+    run_sizes(
+        rt,
+        b"byte-size bit past the last read",
+        b"\x40\x81\x05\x2c\x01",
+    )
 }
 
 // 9: sections with bytes missing or left.
-fn run_section_ends() {
-    run_sizes(b"section empty", b"");
-    run_sizes(b"section of 1 byte", b"\x40");
-    run_sizes(b"section one byte short", b"\x40\x80\x05\x2c");
-    run_sizes(b"section one byte long", b"\x40\x80\x05\x2c\x01\x00");
-    run_field(b"n_reads 2", N_READS_AT, 2);
-    run_field(b"n_reads 4", N_READS_AT, 4);
+fn run_section_ends(rt: &impl Print) -> io::Result<()> {
+    run_sizes(rt, b"section empty", b"")?;
+    run_sizes(rt, b"section of 1 byte", b"\x40")?;
+    run_sizes(rt, b"section one byte short", b"\x40\x80\x05\x2c")?;
+    run_sizes(rt, b"section one byte long", b"\x40\x80\x05\x2c\x01\x00")?;
+    run_field(rt, b"n_reads 2", N_READS_AT, 2)?;
+    run_field(rt, b"n_reads 4", N_READS_AT, 4)
 }
 
 // 9 and 10, with flag 0x1.
-fn run_same_length() {
-    run_same(b"flag 0x1, l_read 0", 0, b"");
-    run_same(b"flag 0x1, l_read -1", MINUS_ONE, b"");
-    run_same(b"flag 0x1, l_read 100001", 100_001, b"");
-    run_same(b"flag 0x1, section not empty", 5, b"\x00");
-    run_same(b"flag 0x1, l_read 5", 5, b"");
+fn run_same_length(rt: &impl Print) -> io::Result<()> {
+    run_same(rt, b"flag 0x1, l_read 0", 0, b"")?;
+    run_same(rt, b"flag 0x1, l_read -1", MINUS_ONE, b"")?;
+    run_same(rt, b"flag 0x1, l_read 100001", 100_001, b"")?;
+    run_same(rt, b"flag 0x1, section not empty", 5, b"\x00")?;
+    run_same(rt, b"flag 0x1, l_read 5", 5, b"")
 }
 
 // 10.
-fn run_raw_sizes() {
-    run_field(b"raw DNA size 309", L_DNA_RAW_AT, 309);
-    run_field(b"raw DNA size 311", L_DNA_RAW_AT, 311);
+fn run_raw_sizes(rt: &impl Print) -> io::Result<()> {
+    run_field(rt, b"raw DNA size 309", L_DNA_RAW_AT, 309)?;
+    run_field(rt, b"raw DNA size 311", L_DNA_RAW_AT, 311)
 }
 
 // ---- One case
 
 // The first bytes of the block, at most so many.
-fn run_input(label: &[u8], most: usize) {
+fn run_input(rt: &impl Print, label: &[u8], most: usize) -> io::Result<()> {
     let mut block = [0u8; BLOCK_CAPACITY];
     let size = write_block(&mut block);
-    put_case(label, first_bytes(first_bytes(&block, size), most));
+    put_case(rt, label, first_bytes(first_bytes(&block, size), most))
 }
 
 // The block with a field of two bytes replaced.
-fn run_short_field(label: &[u8], at: usize, number: u16) {
+fn run_short_field(rt: &impl Print, label: &[u8], at: usize, number: u16) -> io::Result<()> {
     let mut block = [0u8; BLOCK_CAPACITY];
     let size = write_block(&mut block);
     if BLOCK_CAPACITY - 2 < at {
-        return;
+        return Ok(());
     }
     put_u16(&mut block, at, number);
-    put_case(label, first_bytes(&block, size));
+    put_case(rt, label, first_bytes(&block, size))
 }
 
 // The block with a field of four bytes replaced.
-fn run_field(label: &[u8], at: usize, number: u32) {
+fn run_field(rt: &impl Print, label: &[u8], at: usize, number: u32) -> io::Result<()> {
     let mut block = [0u8; BLOCK_CAPACITY];
     let size = write_block(&mut block);
     if BLOCK_CAPACITY - 4 < at {
-        return;
+        return Ok(());
     }
     put_u32(&mut block, at, number);
-    put_case(label, first_bytes(&block, size));
+    put_case(rt, label, first_bytes(&block, size))
 }
 
 // The block with this size section.
-fn run_sizes(label: &[u8], sizes: &[u8]) {
+fn run_sizes(rt: &impl Print, label: &[u8], sizes: &[u8]) -> io::Result<()> {
     let mut block = [0u8; BLOCK_CAPACITY];
     let size = write_block_with(sizes, ENCODER_FLAG, 0, &mut block);
-    put_case(label, first_bytes(&block, size));
+    put_case(rt, label, first_bytes(&block, size))
 }
 
 // The block with flag 0x1, this l_read and this size section.
-fn run_same(label: &[u8], each: u32, sizes: &[u8]) {
+fn run_same(rt: &impl Print, label: &[u8], each: u32, sizes: &[u8]) -> io::Result<()> {
     let mut block = [0u8; BLOCK_CAPACITY];
     let size = write_block_with(sizes, ENCODER_FLAG + SAME_LENGTH_FLAG, each, &mut block);
-    put_case(label, first_bytes(&block, size));
+    put_case(rt, label, first_bytes(&block, size))
 }
 
 // The line of a case: its label and the number.
-fn put_case(label: &[u8], input: &[u8]) {
-    start_line(label);
-    start_line(b": number");
-    put_number(wide64(block_fault(input)));
-    end_line();
+fn put_case(rt: &impl Print, label: &[u8], input: &[u8]) -> io::Result<()> {
+    start_line(rt, label)?;
+    start_line(rt, b": number")?;
+    put_number(rt, wide64(block_fault(input)))?;
+    end_line(rt)
 }

@@ -1,53 +1,53 @@
 // What is printed: words, numbers and bytes with a space before each.
-use integers::{wide16, wide32, wide64};
-use libc::STDOUT_FILENO;
+use integers::wide64;
+use std::io;
 
 // The first word of a line.
-pub fn start_line(word: &[u8]) {
-    io::write_all(STDOUT_FILENO, word);
+pub fn start_line(rt: &impl Print, word: &[u8]) -> io::Result<()> {
+    rt.write_all(word)
 }
 
-pub fn put_word(word: &[u8]) {
-    io::write_all(STDOUT_FILENO, b" ");
-    io::write_all(STDOUT_FILENO, word);
+pub fn put_word(rt: &impl Print, word: &[u8]) -> io::Result<()> {
+    rt.write_all(b" ")?;
+    rt.write_all(word)
 }
 
-pub fn put_number(number: u64) {
-    io::write_all(STDOUT_FILENO, b" ");
-    io::print_decimal(STDOUT_FILENO, number);
+pub fn put_number(rt: &impl Print, number: u64) -> io::Result<()> {
+    print!(rt; " {number}")
 }
 
 // A byte as two hexadecimal digits.
-pub fn put_byte(byte: u8) {
-    io::write_all(STDOUT_FILENO, b" ");
-    io::print_hex(STDOUT_FILENO, wide64(wide32(wide16(byte))), 2);
+pub fn put_byte(rt: &impl Print, byte: u8) -> io::Result<()> {
+    print!(rt; " {byte:02x}")
 }
 
-pub fn put_bytes(bytes: &[u8]) {
+pub fn put_bytes(rt: &impl Print, bytes: &[u8]) -> io::Result<()> {
     let mut i: usize = 0;
     while i < bytes.len() {
-        put_byte(bytes[i]);
+        put_byte(rt, bytes[i])?;
         i += 1;
     }
+    Ok(())
 }
 
-pub fn put_numbers(numbers: &[u32]) {
+pub fn put_numbers(rt: &impl Print, numbers: &[u32]) -> io::Result<()> {
     let mut i: usize = 0;
     while i < numbers.len() {
-        put_number(wide64(numbers[i]));
+        put_number(rt, wide64(numbers[i]))?;
         i += 1;
     }
+    Ok(())
 }
 
 // Whether a walk used all of its section.
-pub fn put_ended(ended: bool) {
+pub fn put_ended(rt: &impl Print, ended: bool) -> io::Result<()> {
     if ended {
-        put_word(b"ended");
+        put_word(rt, b"ended")
     } else {
-        put_word(b"not ended");
+        put_word(rt, b"not ended")
     }
 }
 
-pub fn end_line() {
-    io::write_all(STDOUT_FILENO, b"\n");
+pub fn end_line(rt: &impl Print) -> io::Result<()> {
+    rt.write_all(b"\n")
 }

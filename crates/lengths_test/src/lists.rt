@@ -6,6 +6,7 @@ use crate::section::{put_ends, write_sizes};
 use integers::wide64;
 use lengths::LengthStep;
 use lengths::write::all_equal;
+use std::io;
 
 // No list is longer.
 const LIST_CAPACITY: usize = 16;
@@ -14,65 +15,65 @@ const LIST_CAPACITY: usize = 16;
 const SECTION_CAPACITY: usize = 64;
 
 // The specification's lists, then the largest length of one word, the longest read, and two groups.
-pub fn run_lists() {
-    run_list(&[5, 5, 300]);
-    run_list(&[256]);
-    run_list(&[32768]);
-    run_list(&[65535]);
-    run_list(&[32767]);
-    run_list(&[100_000]);
-    run_list(&[5, 5, 5, 5, 5, 5, 5, 5, 5, 7]);
+pub fn run_lists(rt: &impl Print) -> io::Result<()> {
+    run_list(rt, &[5, 5, 300])?;
+    run_list(rt, &[256])?;
+    run_list(rt, &[32768])?;
+    run_list(rt, &[65535])?;
+    run_list(rt, &[32767])?;
+    run_list(rt, &[100_000])?;
+    run_list(rt, &[5, 5, 5, 5, 5, 5, 5, 5, 5, 7])
 }
 
 // The four lines of a list.
-fn run_list(sizes: &[u32]) {
-    start_line(b"lengths");
-    put_numbers(sizes);
-    end_line();
+fn run_list(rt: &impl Print, sizes: &[u32]) -> io::Result<()> {
+    start_line(rt, b"lengths")?;
+    put_numbers(rt, sizes)?;
+    end_line(rt)?;
     let mut ends = [0u32; LIST_CAPACITY];
     put_ends(sizes, &mut ends);
-    put_list(first_numbers(&ends, sizes.len()));
+    put_list(rt, first_numbers(&ends, sizes.len()))
 }
 
 // Whether all lengths are equal, the bytes of the section, and the lengths that they give.
-fn put_list(ends: &[u32]) {
-    start_line(b"all equal");
-    put_equal(all_equal(ends));
-    end_line();
+fn put_list(rt: &impl Print, ends: &[u32]) -> io::Result<()> {
+    start_line(rt, b"all equal")?;
+    put_equal(rt, all_equal(ends))?;
+    end_line(rt)?;
     let mut space = [0u8; SECTION_CAPACITY];
     let size = write_sizes(ends, &mut space);
-    put_section(first_bytes(&space, size), ends.len());
+    put_section(rt, first_bytes(&space, size), ends.len())
 }
 
-fn put_equal(equal: bool) {
+fn put_equal(rt: &impl Print, equal: bool) -> io::Result<()> {
     if equal {
-        put_word(b"yes");
+        put_word(rt, b"yes")
     } else {
-        put_word(b"no");
+        put_word(rt, b"no")
     }
 }
 
 // The bytes of a section, and the lengths of so many reads.
-fn put_section(section: &[u8], reads: usize) {
-    start_line(b"size section");
-    put_bytes(section);
-    end_line();
-    start_line(b"walked");
-    put_ended(put_walk(section, reads));
-    end_line();
+fn put_section(rt: &impl Print, section: &[u8], reads: usize) -> io::Result<()> {
+    start_line(rt, b"size section")?;
+    put_bytes(rt, section)?;
+    end_line(rt)?;
+    start_line(rt, b"walked")?;
+    put_ended(rt, put_walk(rt, section, reads)?)?;
+    end_line(rt)
 }
 
 // The lengths, read by read; whether the walk ended where the section does.
-fn put_walk(section: &[u8], reads: usize) -> bool {
+fn put_walk(rt: &impl Print, section: &[u8], reads: usize) -> io::Result<bool> {
     let mut cursor = lengths::first_cursor(false, 0);
     let mut i: usize = 0;
     while i < reads {
         let LengthStep::Found(size, next) = lengths::next_length(section, cursor) else {
-            return false;
+            return Ok(false);
         };
-        put_number(wide64(size));
+        put_number(rt, wide64(size))?;
         cursor = next;
         i += 1;
     }
-    lengths::cursor_ended(section, cursor)
+    Ok(lengths::cursor_ended(section, cursor))
 }

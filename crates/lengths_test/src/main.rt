@@ -2,6 +2,7 @@
 // specification's sums on lengths, a block with each of the faults 2 to 10, and a block's largest
 // number of reads. The file stdout holds what the specification gives.
 #![tactic(auto)]
+
 mod block;
 mod damage;
 mod lines;
@@ -10,8 +11,10 @@ mod many;
 mod parts;
 mod section;
 
-fn main() {
-    lists::run_lists();
-    damage::run_faults();
-    many::run_many();
+use std::io;
+
+fn main(rt: HostRuntime) -> io::Result<()> {
+    lists::run_lists(&rt)?;
+    damage::run_faults(&rt)?;
+    many::run_many(&rt)
 }

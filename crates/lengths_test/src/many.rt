@@ -5,6 +5,7 @@ use crate::section::{put_ends, write_sizes};
 use header::faults::MAX_READS;
 use integers::wide64;
 use lengths::LengthStep;
+use std::io;
 
 // A group takes 2 flag bytes, 4 bytes and 4 words.
 const SECTION_CAPACITY: usize = 87_500;
@@ -20,21 +21,21 @@ struct Walked {
     ended: bool,
 }
 
-pub fn run_many() {
+pub fn run_many(rt: &impl Print) -> io::Result<()> {
     let mut sizes = [0u32; MAX_READS];
     put_lengths(&mut sizes);
     let mut ends = [0u32; MAX_READS];
     put_ends(&sizes, &mut ends);
     let mut space = [0u8; SECTION_CAPACITY];
     let size = write_sizes(&ends, &mut space);
-    start_line(b"reads");
-    put_number(MAX_READS as u64);
-    put_word(b"section bytes");
-    put_number(size as u64);
-    put_word(b"first group");
-    put_bytes(first_bytes(&space, GROUP_BYTES));
-    end_line();
-    put_walked(walk(first_bytes(&space, size), MAX_READS as u32));
+    start_line(rt, b"reads")?;
+    put_number(rt, MAX_READS as u64)?;
+    put_word(rt, b"section bytes")?;
+    put_number(rt, size as u64)?;
+    put_word(rt, b"first group")?;
+    put_bytes(rt, first_bytes(&space, GROUP_BYTES))?;
+    end_line(rt)?;
+    put_walked(rt, walk(first_bytes(&space, size), MAX_READS as u32))
 }
 
 // The length of each read.
@@ -76,9 +77,9 @@ fn walk(section: &[u8], reads: u32) -> Walked {
     }
 }
 
-fn put_walked(walked: Walked) {
-    start_line(b"walked sum");
-    put_number(walked.sum);
-    put_ended(walked.ended);
-    end_line();
+fn put_walked(rt: &impl Print, walked: Walked) -> io::Result<()> {
+    start_line(rt, b"walked sum")?;
+    put_number(rt, walked.sum)?;
+    put_ended(rt, walked.ended)?;
+    end_line(rt)
 }

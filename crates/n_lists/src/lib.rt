@@ -2,6 +2,7 @@
 // contracts cite specs/RuleRecord.antt of format and specs/Record.antt of dna; each `requires` says
 // that the read lies in the letters, and that there is room.
 #![tactic(auto)]
+
 ghost use Rattle.std.specs.Prelude.{◌≡◌, cond, ◌+◌, ◌-◌, ◌^◌, ◌≤◌, ◌<◌, min, length, get_or, eqb};
 ghost use Rattle.base.specs.Paste.{pasted};
 ghost use Rattle.dna.specs.Reference.{code_n};

@@ -8,6 +8,7 @@
 // block's length, the types of the columns, and names and name ends that decode reads of it; or
 // `refused` with the number, and whether the buffer holds what it held before.
 #![tactic(auto)]
+
 mod block;
 mod column_faults;
 mod lines;
@@ -19,9 +20,11 @@ mod sections;
 mod show;
 mod writing;
 
-fn main() {
-    sections::run_sections();
-    column_faults::run_column_faults();
-    name_faults::run_name_faults();
-    round_trips::run_round_trips();
+use std::io;
+
+fn main(rt: HostRuntime) -> io::Result<()> {
+    sections::run_sections(&rt)?;
+    column_faults::run_column_faults(&rt)?;
+    name_faults::run_name_faults(&rt)?;
+    round_trips::run_round_trips(&rt)
 }

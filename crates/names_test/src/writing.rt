@@ -7,6 +7,7 @@ use crate::show::{UNTOUCHED_BYTE, UNTOUCHED_END, bytes_untouched, put_buffers};
 use format::{BlockOutcome, EncodeOutcome};
 use header::sections::NAMES_SECTION;
 use integers::{size8, wide64};
+use std::io;
 
 // The most bytes that a block and its names take.
 pub const MAX_BLOCK: usize = 640;
@@ -17,17 +18,25 @@ const MAX_NAMES: usize = 264;
 const TYPES_START: usize = 4;
 
 // The line of a call for the reads ACGT and ACGT.
-pub fn run_two(label: &[u8], names: &[u8], name_ends: &[u32]) {
-    run_call(label, b"ACGTACGT", names, name_ends, MAX_BLOCK);
+pub fn run_two(rt: &impl Print, label: &[u8], names: &[u8], name_ends: &[u32]) -> io::Result<()> {
+    run_call(rt, label, b"ACGTACGT", names, name_ends, MAX_BLOCK)
 }
 
 // The same for these letters, and with this room. No line where more is lent than there is.
-pub fn run_call(label: &[u8], letters: &[u8], names: &[u8], name_ends: &[u32], room: usize) {
+pub fn run_call(
+    rt: &impl Print,
+    label: &[u8],
+    letters: &[u8],
+    names: &[u8],
+    name_ends: &[u32],
+    room: usize,
+) -> io::Result<()> {
     if MAX_BLOCK < room {
-        return;
+        return Ok(());
     }
     let mut out = untouched_block();
     put_call(
+        rt,
         label,
         letters,
         &[4u32, 8u32],
@@ -37,11 +46,12 @@ pub fn run_call(label: &[u8], letters: &[u8], names: &[u8], name_ends: &[u32], r
         &[1u8, 1u8],
         &[0u8, 0u8],
         &mut out[..room],
-    );
+    )
 }
 
 // The line of a call for any number of reads; as many letters are clipped left as right.
 pub fn put_call(
+    rt: &impl Print,
     label: &[u8],
     letters: &[u8],
     ends: &[u32],
@@ -51,8 +61,8 @@ pub fn put_call(
     strands: &[u8],
     clips: &[u8],
     out: &mut [u8],
-) {
-    put_text(label);
+) -> io::Result<()> {
+    put_text(rt, label)?;
     match ora::encode(
         12,
         &[0x1b, 0x1b, 0xe4],
@@ -68,10 +78,10 @@ pub fn put_call(
         0,
         out,
     ) {
-        EncodeOutcome::Written(bytes) => put_block(bytes, out, names.len()),
-        EncodeOutcome::Refused(number) => put_refusal(number, out),
+        EncodeOutcome::Written(bytes) => put_block(rt, bytes, out, names.len())?,
+        EncodeOutcome::Refused(number) => put_refusal(rt, number, out)?,
     }
-    end_line();
+    end_line(rt)
 }
 
 pub fn untouched_block() -> [u8; MAX_BLOCK]
@@ -81,12 +91,12 @@ pub fn untouched_block() -> [u8; MAX_BLOCK]
 }
 
 // The block's length and the types of its columns, then its names.
-fn put_block(bytes: u64, out: &[u8], names: usize) {
-    put_text(b": written");
-    put_number(bytes);
-    put_text(b", types");
-    put_bytes(types_of(ora::section(out, NAMES_SECTION)));
-    put_names(out, names);
+fn put_block(rt: &impl Print, bytes: u64, out: &[u8], names: usize) -> io::Result<()> {
+    put_text(rt, b": written")?;
+    put_number(rt, bytes)?;
+    put_text(rt, b", types")?;
+    put_bytes(rt, types_of(ora::section(out, NAMES_SECTION)))?;
+    put_names(rt, out, names)
 }
 
 // The types of fewer than 256 columns.
@@ -99,12 +109,12 @@ fn types_of(section: &[u8]) -> &[u8] {
 }
 
 // The names that decode reads, with as many bytes lent as there are names, and an end more.
-fn put_names(out: &[u8], size: usize) {
+fn put_names(rt: &impl Print, out: &[u8], size: usize) -> io::Result<()> {
     if MAX_NAMES < size {
-        return;
+        return Ok(());
     }
     let mut names = untouched_names();
-    read_names(out, &mut names[..size]);
+    read_names(rt, out, &mut names[..size])
 }
 
 fn untouched_names() -> [u8; MAX_NAMES]
@@ -113,7 +123,7 @@ fn untouched_names() -> [u8; MAX_NAMES]
     [UNTOUCHED_BYTE; MAX_NAMES]
 }
 
-fn read_names(input: &[u8], names: &mut [u8]) {
+fn read_names(rt: &impl Print, input: &[u8], names: &mut [u8]) -> io::Result<()> {
     let mut letters = [UNTOUCHED_BYTE; 8];
     let mut ends = [UNTOUCHED_END; 2];
     let mut name_ends = [UNTOUCHED_END; 3];
@@ -126,21 +136,20 @@ fn read_names(input: &[u8], names: &mut [u8]) {
         names,
         &mut name_ends,
     ) {
-        BlockOutcome::Accepted(_, _) => put_buffers(names, &name_ends),
+        BlockOutcome::Accepted(_, _) => put_buffers(rt, names, &name_ends),
         BlockOutcome::Refused(number, read) => {
-            put_text(b", refused");
-            put_number(wide64(number));
-            put_number(read);
+            put_text(rt, b", refused")?;
+            put_number(rt, wide64(number))?;
+            put_number(rt, read)
         }
     }
 }
 
-fn put_refusal(number: u32, out: &[u8]) {
-    put_text(b": refused");
-    put_number(wide64(number));
+fn put_refusal(rt: &impl Print, number: u32, out: &[u8]) -> io::Result<()> {
+    put_text(rt, b": refused")?;
+    put_number(rt, wide64(number))?;
     if bytes_untouched(out) {
-        put_text(b", untouched");
-        return;
+        return put_text(rt, b", untouched");
     }
-    put_text(b", written to");
+    put_text(rt, b", written to")
 }

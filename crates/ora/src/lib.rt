@@ -4,6 +4,7 @@
 // answers. The enums of the answers are put into the paper's terms by specs/Answered.antt there,
 // the struct of this interface by specs/Answers.antt.
 #![tactic(auto)]
+
 ghost use Rattle.std.specs.Prelude.{◌≡◌, eqb};
 ghost use Rattle.format.specs.Answered.{
   outcome_of_block,

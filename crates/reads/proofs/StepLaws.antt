@@ -3,12 +3,11 @@ use mathlib.Core.Path.{◌≡◌, refl, sym, ap, ap₂, ◌∙◌}
 use Prim.Native.Nat.{ℕ, ◌+◌, ◌%◌}
 use native.Mathlib.Omega.{arith}
 use mathlib.Core.List.{List}
-use lib.ListN.{length}
 use Rattle.base.specs.Lists.{AllBytes}
 use Rattle.base.specs.Answer.{Scan, checked, found, refused, and_then, refused_as}
 use Rattle.dna.specs.Record.{ReadContext, RecordFields, perfect, global, local, raw, raw4}
 use Rattle.dna.specs.Record.{StoredRecord}
-use Rattle.dna.specs.Alignment.{position, position_after, is_aligned}
+use Rattle.dna.specs.Alignment.{position_after, is_aligned}
 use Rattle.dna.specs.Division.{GroupFlags, context_of}
 use Rattle.dna.specs.RecordAt.{record_at}
 use Rattle.dna.specs.Walk.{of_read, Walk, refused_at}

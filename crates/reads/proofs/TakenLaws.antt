@@ -14,7 +14,7 @@ use Rattle.base.proofs.AnswerLaws.{found-refused_as}
 use Rattle.dna.specs.Reference.{ReferenceFits}
 use Rattle.dna.specs.Sizes.{max_read_length}
 use Rattle.dna.specs.Record.{max_entries, ReadContext, RecordFields, StoredRecord}
-use Rattle.dna.specs.Alignment.{is_aligned, position, position_after, entries_of}
+use Rattle.dna.specs.Alignment.{is_aligned, position_after, entries_of}
 use Rattle.dna.specs.Counts.{is_difference, top_of, record_counts}
 use Rattle.dna.specs.Division.{context_of}
 use Rattle.dna.specs.RecordAt.{record_at}

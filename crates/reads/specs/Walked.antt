@@ -1,6 +1,6 @@
 -- What a walk of so many steps answers and leaves in the lent buffers, from the reads that it
 -- found. Where it writes, the letters and ends begin at the start of the buffers.
-use Rattle.std.specs.Prelude.{ℕ, ◌+◌, ◌^◌, ◌≤◌, ◌<◌, ◌≡◌, Bool, true, false, cond, ◌||◌, length}
+use Rattle.std.specs.Prelude.{ℕ, ◌+◌, ◌^◌, ◌≤◌, ◌<◌, ◌≡◌, Bool, true, false, cond, ◌||◌}
 use mathlib.Core.List.{List, [], ◌∷◌, map, flatten}
 use Rattle.base.specs.Lists.{total, places_from}
 use Rattle.base.specs.Paste.{pasted}

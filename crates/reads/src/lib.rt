@@ -3,6 +3,7 @@
 // one. The contracts cite specs/Cursor.antt and specs/Walked.antt; what later walks rest on is
 // proofs/ReadLaws.antt.
 #![tactic(auto)]
+
 ghost use Rattle.std.specs.Prelude.{◌≡◌, true, ◌+◌, ◌≤◌, ◌<◌, length};
 ghost use Rattle.base.specs.Numbers.{non_negative};
 ghost use Rattle.dna.specs.Reference.{ReferenceFits};

@@ -2,5 +2,6 @@
 // specs/Letters.antt and Counts.antt of dna; how a record lies in the section is told in
 // specs/Laid.antt, how its letters are written in specs/Printed.antt.
 #![tactic(auto)]
+
 pub mod counts;
 pub mod letters;

@@ -15,7 +15,7 @@ use Rattle.dna.specs.Reference.{code_n}
 use Rattle.dna.specs.Record.{Entry, fields_bytes, field_width, has_n_list, n_list_bytes, record_bytes}
 use Rattle.dna.specs.declared.Record.{Record}
 use Rattle.dna.specs.declared.Record.TheVariants as kinds
-use Rattle.format.specs.RuleRecord.{n_offsets_of, Written}
+use Rattle.format.specs.RuleRecord.{n_offsets_of}
 use Rattle.format.proofs.WrittenRecord.{n-none, n-some}
 use Rattle.record_writer.specs.Written.{fields_for, offsets_for, record_written}
 use Rattle.record_writer.specs.Written.{fields_written, written_bytes}

@@ -3,6 +3,7 @@
 // kinds.rt write the parts. The contracts cite specs/Written.antt; each `requires` says that the
 // record can be written (specs/Writable.antt), and that there is room.
 #![tactic(auto)]
+
 ghost use Rattle.std.specs.Prelude.{◌≡◌, List, ℕ, ◌+◌, ◌^◌, ◌≤◌, length};
 ghost use Rattle.base.specs.Paste.{pasted};
 ghost use Rattle.dna.specs.Record.{max_entries, Entry};

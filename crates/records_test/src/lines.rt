@@ -1,21 +1,20 @@
 // What is printed: words and numbers with a space before each.
-use libc::STDOUT_FILENO;
+use std::io;
 
 // The first word of a line.
-pub fn start_line(word: &[u8]) {
-    io::write_all(STDOUT_FILENO, word);
+pub fn start_line(rt: &impl Print, word: &[u8]) -> io::Result<()> {
+    rt.write_all(word)
 }
 
-pub fn put_word(word: &[u8]) {
-    io::write_all(STDOUT_FILENO, b" ");
-    io::write_all(STDOUT_FILENO, word);
+pub fn put_word(rt: &impl Print, word: &[u8]) -> io::Result<()> {
+    rt.write_all(b" ")?;
+    rt.write_all(word)
 }
 
-pub fn put_number(number: u64) {
-    io::write_all(STDOUT_FILENO, b" ");
-    io::print_decimal(STDOUT_FILENO, number);
+pub fn put_number(rt: &impl Print, number: u64) -> io::Result<()> {
+    print!(rt; " {number}")
 }
 
-pub fn end_line() {
-    io::write_all(STDOUT_FILENO, b"\n");
+pub fn end_line(rt: &impl Print) -> io::Result<()> {
+    rt.write_all(b"\n")
 }

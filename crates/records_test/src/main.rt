@@ -2,22 +2,25 @@
 // good, and a damaged record for each of the rules 12 to 20. The reference is ACGTACGTTGCA. The
 // file stdout holds what the specification gives.
 #![tactic(auto)]
+
 mod damage;
 mod good;
 mod lines;
 mod parts;
 mod show;
 
-fn main() {
-    good::run_sums();
-    good::run_placed();
-    good::run_others();
-    good::run_after();
-    damage::run_cut();
-    damage::run_flags();
-    damage::run_places();
-    damage::run_entries();
-    damage::run_packed();
-    damage::run_n_lists();
-    damage::run_n_words();
+use std::io;
+
+fn main(rt: HostRuntime) -> io::Result<()> {
+    good::run_sums(&rt)?;
+    good::run_placed(&rt)?;
+    good::run_others(&rt)?;
+    good::run_after(&rt)?;
+    damage::run_cut(&rt)?;
+    damage::run_flags(&rt)?;
+    damage::run_places(&rt)?;
+    damage::run_entries(&rt)?;
+    damage::run_packed(&rt)?;
+    damage::run_n_lists(&rt)?;
+    damage::run_n_words(&rt)
 }

@@ -10,52 +10,74 @@ use record_letters::counts::differences;
 use record_letters::letters::{pair_table, put_read};
 use records::{Bits, Decoded, Layout, decode_record};
 use reference::word_table;
+use std::io;
 
 // No read of a case is longer.
 const READ_CAPACITY: usize = 16;
 
 // The line of a case: its name, then the record at the start of the section, or the number of its
 // fault. The position before is 0.
-pub fn show(name: &[u8], section: &[u8], bits: Bits, size: usize) {
-    show_at(name, section, 0, bits, size, 0);
+pub fn show(
+    rt: &impl Print,
+    name: &[u8],
+    section: &[u8],
+    bits: Bits,
+    size: usize,
+) -> io::Result<()> {
+    show_at(rt, name, section, 0, bits, size, 0)
 }
 
 // The same of a record at a place, after a position. No line where the place lies past the section
 // or the read is too long.
-pub fn show_at(name: &[u8], section: &[u8], at: usize, bits: Bits, size: usize, previous: u32) {
+pub fn show_at(
+    rt: &impl Print,
+    name: &[u8],
+    section: &[u8],
+    at: usize,
+    bits: Bits,
+    size: usize,
+    previous: u32,
+) -> io::Result<()> {
     if READ_CAPACITY < size {
-        return;
+        return Ok(());
     }
     if section.len() < at {
-        return;
+        return Ok(());
     }
-    start_line(name);
-    start_line(b":");
+    start_line(rt, name)?;
+    start_line(rt, b":")?;
     let reference = [0x1bu8, 0x1b, 0xe4];
     match decode_record(section, at, bits, size, wide64(previous), 12) {
-        Decoded::Refused(number) => put_refused(number),
-        Decoded::Found(record, layout) => put_found(section, &reference, record, layout, size),
+        Decoded::Refused(number) => put_refused(rt, number)?,
+        Decoded::Found(record, layout) => put_found(rt, section, &reference, record, layout, size)?,
     }
-    end_line();
+    end_line(rt)
 }
 
-fn put_refused(number: u32) {
-    put_word(b"refused");
-    put_number(wide64(number));
+fn put_refused(rt: &impl Print, number: u32) -> io::Result<()> {
+    put_word(rt, b"refused")?;
+    put_number(rt, wide64(number))
 }
 
 // Kind and place, where the record ends, its counts, its letters, and how many of them its entries
 // changed.
-fn put_found(section: &[u8], reference: &[u8], record: Record, layout: Layout, size: usize)
+fn put_found(
+    rt: &impl Print,
+    section: &[u8],
+    reference: &[u8],
+    record: Record,
+    layout: Layout,
+    size: usize,
+) -> io::Result<()>
     requires { (Printable section.now reference.now size «record» layout) × (size ≤ 16) }
 {
-    put_kind(record);
-    put_word(b"end");
-    put_number(layout.end as u64);
-    put_word(b"entries");
-    put_number(layout.entry_count as u64);
-    put_word(b"differences");
-    put_number(differences(section, reference, record, layout, size));
+    put_kind(rt, record)?;
+    put_word(rt, b"end")?;
+    put_number(rt, layout.end as u64)?;
+    put_word(rt, b"entries")?;
+    put_number(rt, layout.entry_count as u64)?;
+    put_word(rt, b"differences")?;
+    put_number(rt, differences(section, reference, record, layout, size))?;
     let mut letters = [0u8; READ_CAPACITY];
     let changed = put_read(
         section,
@@ -69,35 +91,35 @@ fn put_found(section: &[u8], reference: &[u8], record: Record, layout: Layout, s
         &mut letters,
         0,
     );
-    put_word(first_bytes(&letters, size));
-    put_word(b"changed");
-    put_number(changed);
+    put_word(rt, first_bytes(&letters, size))?;
+    put_word(rt, b"changed")?;
+    put_number(rt, changed)
 }
 
-fn put_kind(record: Record) {
+fn put_kind(rt: &impl Print, record: Record) -> io::Result<()> {
     match record {
-        Record::Perfect(placement) => put_placed(b"perfect", placement),
-        Record::Global(placement) => put_placed(b"global", placement),
-        Record::Local(placement) => put_placed(b"local", placement),
-        Record::Raw => put_word(b"raw"),
-        Record::Raw4 => put_word(b"raw4"),
+        Record::Perfect(placement) => put_placed(rt, b"perfect", placement),
+        Record::Global(placement) => put_placed(rt, b"global", placement),
+        Record::Local(placement) => put_placed(rt, b"local", placement),
+        Record::Raw => put_word(rt, b"raw"),
+        Record::Raw4 => put_word(rt, b"raw4"),
     }
 }
 
 // A kind, its position, its strand, and the letters clipped at each end.
-fn put_placed(kind: &[u8], placement: Placement) {
-    put_word(kind);
-    put_number(placement.position);
+fn put_placed(rt: &impl Print, kind: &[u8], placement: Placement) -> io::Result<()> {
+    put_word(rt, kind)?;
+    put_number(rt, placement.position)?;
     let strand = placement.strand;
-    put_strand(strand);
-    put_word(b"clips");
-    put_number(wide64(wide32(wide16(placement.left))));
-    put_number(wide64(wide32(wide16(placement.right))));
+    put_strand(rt, strand)?;
+    put_word(rt, b"clips")?;
+    put_number(rt, wide64(wide32(wide16(placement.left))))?;
+    put_number(rt, wide64(wide32(wide16(placement.right))))
 }
 
-fn put_strand(strand: Strand) {
+fn put_strand(rt: &impl Print, strand: Strand) -> io::Result<()> {
     match strand {
-        Strand::Forward => put_word(b"forward"),
-        Strand::Reverse => put_word(b"reverse"),
+        Strand::Forward => put_word(rt, b"forward"),
+        Strand::Reverse => put_word(rt, b"reverse"),
     }
 }

@@ -127,6 +127,10 @@ fn files_that_stand_there() {
     run(&["reference", &genome, "-o", &link]).accepted();
     assert!(fs::symlink_metadata(&link).unwrap().is_symlink());
     assert_eq!(folder.read("g.ref"), small_reference());
+    // The gate takes no link below the tree.
+    for link in ["link.fa", "link.ref"] {
+        fs::remove_file(folder.path(link)).unwrap();
+    }
 }
 
 #[test]

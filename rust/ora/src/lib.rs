@@ -34,7 +34,7 @@
 //! leaves every buffer as it was. All types can be sent to and shared between threads, and calls on
 //! different threads do not wait for each other.
 //!
-//! The static library is linked from `target/staticlib/libcapi.a`, which `rt staticlib capi`
+//! The static library is linked from `target/staticlib/libcapi.a`, which `make library`
 //! writes.
 
 #![deny(missing_docs)]

@@ -32,10 +32,10 @@ fn the_program_lists_every_case() {
     let source = std::fs::read_to_string(tree().join("crates/listing_cases/src/main.rt")).unwrap();
     let mut at = 0;
     for case in cases() {
-        let line = format!("list_case(b\"{}\");", case.name);
+        let line = format!("list_case(rt, b\"{}\")", case.name);
         at += source[at..].find(&line).expect(case.name);
     }
-    assert_eq!(source.matches("list_case(b\"").count(), cases().len());
+    assert_eq!(source.matches("list_case(rt, b\"").count(), cases().len());
 }
 
 #[test]

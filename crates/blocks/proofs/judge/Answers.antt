@@ -39,9 +39,8 @@ returns-then-lengths-ne0 c =
     (accepted (goal.at.returns-then-lengths-ne0 c).Else-header-ne0) _ c.lengths_fault-lengths.ensures c.if-lengths-ne0.true
 
 pub judge_reads-requires : goal.judge_reads-requires
-judge_reads-requires c =
-    (
-      fits (goal.at.judge_reads-requires c).Else-reference_size_wrong,
-      accepted (goal.at.judge_reads-requires c).Else-header-ne0,
-      sym c.lengths_fault-lengths.ensures ∙ c.if-lengths-ne0.false,
-    )
+judge_reads-requires c = (
+  fits (goal.at.judge_reads-requires c).Else-reference_size_wrong,
+  accepted (goal.at.judge_reads-requires c).Else-header-ne0,
+  sym c.lengths_fault-lengths.ensures ∙ c.if-lengths-ne0.false,
+)

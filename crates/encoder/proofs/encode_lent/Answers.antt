@@ -93,8 +93,7 @@ block_size c =
     )
 
 pub dna_length-dna-requires : goal.dna_length-dna-requires
-dna_length-dna-requires c =
-    (
+dna_length-dna-requires c = (
   c.requires.rights_value,
   c.word_table-forward.ensures,
   c.word_table-reverse.ensures,

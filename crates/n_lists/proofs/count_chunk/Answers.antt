@@ -1,4 +1,3 @@
-use Prim.Native.Nat.{◌-◌}
 use native.Mathlib.Omega.{arith}
 use Rattle.n_lists.proofs.NPlaceLaws.{count_none, count_cons, count_below}
 use Rattle.n_lists.proofs.count_chunk.Goals as goal

@@ -1,4 +1,3 @@
-use Prim.Native.Nat.{◌-◌}
 use native.Mathlib.Omega.{arith}
 use Rattle.n_lists.proofs.NPlaceLaws.{count_none, count_split, count_below, count_offsets}
 use Rattle.n_lists.proofs.count_n.Goals as goal

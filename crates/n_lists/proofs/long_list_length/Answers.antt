@@ -1,5 +1,4 @@
 use mathlib.Core.Path.{refl, ap}
-use Prim.Native.Nat.{◌-◌}
 use native.Mathlib.Omega.{arith}
 use lib.ListN.{length}
 use Rattle.n_lists.proofs.NPlaceLaws.{First, places_first}
@@ -19,8 +18,7 @@ first c =
 
 pub loop-k-init : goal.loop-k-init
 loop-k-init c =
-    let a = c.args in
-    (
+    let a = c.args in (
       omega arith,
       omega arith,
       c.requires.lies.ordered,

@@ -1,5 +1,4 @@
 use mathlib.Core.Path.{refl, ◌∙◌}
-use Prim.Native.Nat.{◌-◌}
 use native.Mathlib.Omega.{arith}
 use Rattle.n_lists.proofs.WordLaws.{word-skipped}
 use Rattle.n_lists.proofs.skip_words.Goals as goal

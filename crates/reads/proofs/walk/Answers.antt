@@ -1,5 +1,5 @@
 use mathlib.Core.Path.{sym, ◌∙◌}
-use Prim.Native.Nat.{◌-◌, ◌^◌, ◌<◌}
+use Prim.Native.Nat.{◌^◌, ◌<◌}
 use native.Mathlib.Omega.{arith}
 use Rattle.base.specs.Lists.{AllBytes}
 use Rattle.reads.specs.ReadWalk.{Source}
@@ -40,8 +40,7 @@ loop-i-init c =
 
 pub next_read-step-requires : goal.next_read-step-requires
 next_read-step-requires c =
-    let l = c.loop-i in
-     (
+    let l = c.loop-i in (
       c.requires.source_fits.0,
       l.invariant.fits,
       omega (arith, l.invariant.read, c.loop-i-test.true, c.requires.source_fits.3),

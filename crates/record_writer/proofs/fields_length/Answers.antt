@@ -45,26 +45,24 @@ overflow_add-result-in-Raw4 c =
     omega (arith, c.packed_length4.ensures)
 
 pub returns-in-Perfect : goal.returns-in-Perfect
-returns-in-Perfect c =
-    (
-      λ written codes many size.
-          c.position_length.ensures.0
-          ∙ sym (ap length (ap (λ (k : Record). fields_written c.args.previous k written
-          codes) c.in-Perfect.is ∙ perfect-fields c.args.previous c.in-Perfect.placement written codes)),
-      omega (arith, c.position_length.ensures.1),
-    )
+returns-in-Perfect c = (
+  λ written codes many size.
+      c.position_length.ensures.0
+      ∙ sym (ap length (ap (λ (k : Record). fields_written c.args.previous k written
+      codes) c.in-Perfect.is ∙ perfect-fields c.args.previous c.in-Perfect.placement written codes)),
+  omega (arith, c.position_length.ensures.1),
+)
 
 pub returns-in-Global : goal.returns-in-Global
-returns-in-Global c =
-    (
-      λ written codes many size.
-          told (goal.at.returns-in-Global c).Start _ c.in-Global.is written codes (omega (
-            arith,
-            c.position_length-in-Global.ensures.0,
-            length_global c.args.previous c.in-Global.placement written codes,
-          )),
-      omega (arith, c.position_length-in-Global.ensures.1),
-    )
+returns-in-Global c = (
+  λ written codes many size.
+      told (goal.at.returns-in-Global c).Start _ c.in-Global.is written codes (omega (
+        arith,
+        c.position_length-in-Global.ensures.0,
+        length_global c.args.previous c.in-Global.placement written codes,
+      )),
+  omega (arith, c.position_length-in-Global.ensures.1),
+)
 
 pub returns-in-Local : goal.returns-in-Local
 unfolding packed_length
@@ -96,36 +94,34 @@ returns-in-Local c =
 
 pub returns-in-Raw : goal.returns-in-Raw
 unfolding packed_length
-returns-in-Raw c =
-    (
-      λ written codes many size.
-          told (goal.at.returns-in-Raw c).Start _ c.in-Raw.is written codes
-          (omega (
-            arith,
-            c.packed_length2-in-Raw.ensures,
-            ap length
-                (raw-fields c.args.previous written codes),
-            length-raw codes,
-            ap (packed_length 4)
-                size,
-          )),
-      omega (arith, c.packed_length2-in-Raw.ensures),
-    )
+returns-in-Raw c = (
+  λ written codes many size.
+      told (goal.at.returns-in-Raw c).Start _ c.in-Raw.is written codes
+      (omega (
+        arith,
+        c.packed_length2-in-Raw.ensures,
+        ap length
+            (raw-fields c.args.previous written codes),
+        length-raw codes,
+        ap (packed_length 4)
+            size,
+      )),
+  omega (arith, c.packed_length2-in-Raw.ensures),
+)
 
 pub returns-in-Raw4 : goal.returns-in-Raw4
 unfolding packed_length
-returns-in-Raw4 c =
-    (
-      λ written codes many size.
-          told (goal.at.returns-in-Raw4 c).Start _ c.in-Raw4.is written codes
-          (omega (
-            arith,
-            c.packed_length4.ensures,
-            ap length
-                (raw4-fields c.args.previous written codes),
-            length-raw4 codes,
-            ap
-                (packed_length 2) size,
-          )),
-      omega (arith, c.packed_length4.ensures),
-    )
+returns-in-Raw4 c = (
+  λ written codes many size.
+      told (goal.at.returns-in-Raw4 c).Start _ c.in-Raw4.is written codes
+      (omega (
+        arith,
+        c.packed_length4.ensures,
+        ap length
+            (raw4-fields c.args.previous written codes),
+        length-raw4 codes,
+        ap
+            (packed_length 2) size,
+      )),
+  omega (arith, c.packed_length4.ensures),
+)

@@ -17,8 +17,7 @@ overflow_add-result c =
     omega (arith, c.forward_bit.ensures.1, c.bit.ensures.1)
 
 pub returns : goal.returns
-returns c =
-    (
+returns c = (
   omega (
     arith,
     c.forward_bit.ensures.0,

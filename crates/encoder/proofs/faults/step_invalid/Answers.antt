@@ -1,6 +1,5 @@
 -- `encoder::faults::step_invalid` meets its contract. Assumes nothing.
 use mathlib.Core.Path.{sym}
-use Prim.Native.Nat.{◌-◌}
 use native.Mathlib.Omega.{arith}
 use Rattle.encoder.proofs.FaultLaws.{step-none, step-some}
 use Rattle.encoder.proofs.faults.step_invalid.Goals as goal

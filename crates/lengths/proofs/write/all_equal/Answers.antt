@@ -1,5 +1,4 @@
 use mathlib.Core.Path.{sym, ◌∙◌}
-use Prim.Native.Nat.{◌-◌}
 use native.Mathlib.Omega.{arith}
 use Rattle.lengths.proofs.EqualLaws.{equal-none, equal_first, equal_other}
 use Rattle.lengths.proofs.EqualLaws.{equal_more, equal_end}

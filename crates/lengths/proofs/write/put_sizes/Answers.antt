@@ -1,5 +1,4 @@
 use mathlib.Core.Path.{refl}
-use Prim.Native.Nat.{◌-◌}
 use Rattle.base.proofs.PastingLaws.{pasting-start}
 use Rattle.dna.specs.Sizes.{size_section_bytes}
 use Rattle.lengths.specs.Form.{stored_of}

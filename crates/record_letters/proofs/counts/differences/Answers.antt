@@ -38,7 +38,7 @@ local c =
 
 -- Its clips, as they are read.
 clips : (c : After-size8)
-    → 
+    →
     c.in-Local.placement.left + c.in-Local.placement.right
     ≡ c.size8-left.result + c.size8.result
 clips c = omega (arith, c.size8-left.ensures.0, c.size8.ensures.0)

@@ -1,7 +1,7 @@
 use mathlib.Core.Path.{sym, ap, ◌∙◌}
-use Prim.Native.Nat.{◌+◌, ◌-◌}
+use Prim.Native.Nat.{◌+◌}
 use native.Mathlib.Omega.{arith}
-use mathlib.Core.Bool.{Bool, true, false, ◌||◌}
+use mathlib.Core.Bool.{Bool, ◌||◌}
 use borrow.Author.Tests.{eq-eqb, ne_eqb}
 use Rattle.dna.specs.Alignment.{n_positions}
 use Rattle.records.proofs.NListLaws.{place_inside}

@@ -12,13 +12,12 @@ use Rattle.record_letters.proofs.letters.put_local.Goals as goal
 
 pub put_packed-requires : goal.put_packed-requires
 unfolding packed_length
-put_packed-requires c =
-    (
-      omega (arith, c.requires.3, c.size8-left.ensures.0),
-      omega (arith, c.size8-left.ensures.1),
-      omega (arith, c.requires.4, c.requires.0, c.size8-left.ensures.0),
-      c.requires.5,
-    )
+put_packed-requires c = (
+  omega (arith, c.requires.3, c.size8-left.ensures.0),
+  omega (arith, c.size8-left.ensures.1),
+  omega (arith, c.requires.4, c.requires.0, c.size8-left.ensures.0),
+  c.requires.5,
+)
 
 pub put_local_stretch-requires : goal.put_local_stretch-requires
 put_local_stretch-requires c =

@@ -49,22 +49,20 @@ written c r letters same e =
     ∙ ap (plain_of a.section.now a.reference.now a.size a.layout) (sym e))
 
 pub put_placed-requires : goal.put_placed-requires
-put_placed-requires c =
-    (
-      placed (goal.at.put_placed-requires c).Start _ c.in-Perfect.is,
-      omega (arith, c.requires.1),
-      c.requires.2,
-      c.requires.3,
-    )
+put_placed-requires c = (
+  placed (goal.at.put_placed-requires c).Start _ c.in-Perfect.is,
+  omega (arith, c.requires.1),
+  c.requires.2,
+  c.requires.3,
+)
 
 pub put_placed-requires-in-Global : goal.put_placed-requires-in-Global
-put_placed-requires-in-Global c =
-    (
-      (placed (goal.at.put_placed-requires-in-Global c).Start _ c.in-Global.is).stretch,
-      omega (arith, c.requires.1),
-      c.requires.2,
-      c.requires.3,
-    )
+put_placed-requires-in-Global c = (
+  (placed (goal.at.put_placed-requires-in-Global c).Start _ c.in-Global.is).stretch,
+  omega (arith, c.requires.1),
+  c.requires.2,
+  c.requires.3,
+)
 
 pub put_local-requires : goal.put_local-requires
 unfolding packed_in
@@ -81,13 +79,12 @@ put_local-requires c =
 
 pub put_packed-requires : goal.put_packed-requires
 unfolding packed_in packed_length
-put_packed-requires c =
-    (
-      omega (arith, packed (goal.at.put_packed-requires c).Start _ c.in-Raw.is),
-      omega (arith, c.requires.0.laid.lists.short),
-      omega (arith, c.requires.1),
-      c.requires.2,
-    )
+put_packed-requires c = (
+  omega (arith, packed (goal.at.put_packed-requires c).Start _ c.in-Raw.is),
+  omega (arith, c.requires.0.laid.lists.short),
+  omega (arith, c.requires.1),
+  c.requires.2,
+)
 
 pub put_codes4-requires : goal.put_codes4-requires
 unfolding packed_in raw4_codes fields_in packed_at

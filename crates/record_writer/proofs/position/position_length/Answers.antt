@@ -5,16 +5,14 @@ use Rattle.record_writer.proofs.PositionLaws.{step_length, full_length}
 use Rattle.record_writer.proofs.position.position_length.Goals as goal
 
 pub returns-then-step_fits : goal.returns-then-step_fits
-returns-then-step_fits c =
-    (
+returns-then-step_fits c = (
   step_length c.args.previous c.args.position
       (sym c.step_fits.ensures ∙ c.if-step_fits.true),
   omega arith,
 )
 
 pub returns : goal.returns
-returns c =
-    (
+returns c = (
   full_length c.args.previous c.args.position
       (sym c.step_fits.ensures ∙ c.if-step_fits.false),
   omega arith,

@@ -1,0 +1,11 @@
+-- `case_text::print::put_bytes` is safe and ends. The measure is how many bytes are left. Assumes nothing.
+use Rattle.std.proofs.Common.{◌-◌, ◌≤◌, length}
+use Rattle.case_text.proofs.print.put_bytes.Given as goal
+
+abbrev pub invariant-loop-i : goal.invariant-loop-i
+invariant-loop-i g l =
+    l.i ≤ length l.bytes
+
+abbrev pub decreases-loop-i : goal.decreases-loop-i
+decreases-loop-i g l =
+    length l.bytes - l.i

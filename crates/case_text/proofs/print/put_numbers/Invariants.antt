@@ -1,0 +1,12 @@
+-- `case_text::print::put_numbers` is safe and ends. The measure is how many numbers are left. Assumes
+-- nothing.
+use Rattle.std.proofs.Common.{◌-◌, ◌≤◌, length}
+use Rattle.case_text.proofs.print.put_numbers.Given as goal
+
+abbrev pub invariant-loop-i : goal.invariant-loop-i
+invariant-loop-i g l =
+    l.i ≤ length l.numbers
+
+abbrev pub decreases-loop-i : goal.decreases-loop-i
+decreases-loop-i g l =
+    length l.numbers - l.i
