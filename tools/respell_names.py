@@ -12,7 +12,9 @@ that would fall together are left as they are, and printed.
 import collections
 import os
 import re
+import subprocess
 import sys
+import tempfile
 
 TOKEN = re.compile(r"[A-Za-zα-ωℓ_][\w'′]*(?:-[\w'′]+)*")
 DECLARED = re.compile(
@@ -22,7 +24,8 @@ DECLARED = re.compile(
 LITERAL = re.compile(r"""(b?'(?:\\.|[^'\\\n])'(?!\w)|b?"(?:\\.|[^"\\])*")""")
 QUOTED = re.compile(r"""("(?:\\.|[^"\\\n])*")""")
 CAMEL = re.compile(r"[a-z0-9][A-Z]")
-KIT = "/opt/rattle/rattle"
+# The library beside the page that `rt doc` names.
+KIT = os.path.join(os.path.dirname(subprocess.run(["rt", "doc"], capture_output=True, text=True).stdout.strip()), "rattle")
 KITS = ("mathlib", "native", "lib", "Prim", "borrow")
 # Looked at by hand: two names that fall together here stand in different records or crates, or one is a local's.
 TOGETHER = set(
@@ -173,9 +176,10 @@ def main():
             with open(path, "w", encoding="utf-8") as f:
                 f.write(new)
             changed += 1
-    with open("/tmp/respelled.tsv", "w", encoding="utf-8") as f:
+    table = os.path.join(tempfile.gettempdir(), "respelled.tsv")
+    with open(table, "w", encoding="utf-8") as f:
         f.writelines(f"{o}\t{n}\n" for o, n in sorted(turn.items()))
-    print(f"{len(turn)} names respelled in {changed} files; they stand in /tmp/respelled.tsv")
+    print(f"{len(turn)} names respelled in {changed} files; they stand in {table}")
     return 0
 
 
