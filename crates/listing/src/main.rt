@@ -1,11 +1,9 @@
 // listing REFERENCE BLOCKS: prints the reads of a file of blocks, as 01's listing program does.
 #![tactic(auto)]
 
+use listing_files::PATH_ROOM;
 use std::env::FillError;
 use std::rt::Env;
-
-// The bytes that a path may have.
-const PATH_ROOM: usize = 4_096;
 
 // Whether an argument stands at an index.
 fn has_arg(rt: &impl Env, index: usize) -> bool {

@@ -4,14 +4,12 @@
 #![tactic(auto)]
 
 use lines::put_text;
+use listing_files::PATH_ROOM;
 use std::io;
 use std::rt::Files;
 
 // The names of cases are shorter.
 const NAME_ROOM: usize = 64;
-
-// The bytes that a path may have.
-const PATH_ROOM: usize = 4_096;
 
 // The listing of a case, under its name.
 fn list_case<R: Files + Print + Eprint>(rt: &R, name: &[u8]) -> io::Result<()> {

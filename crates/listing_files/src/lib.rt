@@ -25,6 +25,9 @@ use windows::{Filled, fill};
 // One byte more than a reference file may have, so that a longer one is noticed.
 const REFERENCE_ROOM: usize = 32_769;
 
+// The bytes that a path may have.
+pub const PATH_ROOM: usize = 4_096;
+
 // Two blocks of the largest size.
 const BUFFER_ROOM: usize = 65_536;
 
