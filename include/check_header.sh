@@ -52,7 +52,8 @@ awk '
 open { line = $0; sub(/^ +/, "", line); text = text (text == "" ? "" : " ") line }
 open && /;$/ { open = 0; print text }' "$header" | sort >"$work/declared"
 
-sed -n 's/^pub const \([A-Z0-9_]*\): u32 = \([0-9]*\);$/ORA_\1 = \2/p' "$refusals" | sort >"$work/numbers"
+sed -n 's/^    \([A-Z][A-Za-z0-9]*\) = \([0-9]*\),$/\1 = \2/p' "$refusals" |
+  sed 's/\([A-Z]\)/_\1/g; y/abcdefghijklmnopqrstuvwxyz/ABCDEFGHIJKLMNOPQRSTUVWXYZ/; s/^/ORA/' | sort >"$work/numbers"
 sed -n '/^enum ora_refusal {/,/^};/s/^ *\(ORA_[A-Z0-9_]* = [1-9][0-9]*\),\{0,1\}.*/\1/p' "$header" | sort >"$work/named"
 
 # The slots of an answer: as many as the crate's array has, and in each what the definitions put there.

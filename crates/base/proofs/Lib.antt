@@ -25,3 +25,4 @@ pub mod FlatMapLaws
 pub mod DigitLaws
 pub mod AnyLaws
 pub mod AtPasteLaws
+pub mod SliceLaws

@@ -18,7 +18,7 @@ ghost use Rattle.reference.specs.Tables.{word_table};
 
 use lengths::lengths_fault;
 use lengths::write::{put_sizes, sizes_length};
-use reference::{fill_words, put_stretch_forward, put_stretch_reverse};
+use reference::{fill_words, put_strand};
 
 #[unsafe(no_mangle)]
 pub extern "C" fn bench_fill_words(forward: bool, table: &mut [u64])
@@ -42,7 +42,7 @@ pub extern "C" fn bench_put_stretch_forward(
     ensures { out.new ≡ pasted out.old at
         (stretch_letters reference.now true leftmost bases) }
 {
-    put_stretch_forward(reference, leftmost, bases, table, out, at);
+    put_strand::<true>(reference, leftmost, bases, table, out, at);
 }
 
 #[unsafe(no_mangle)]
@@ -59,7 +59,7 @@ pub extern "C" fn bench_put_stretch_reverse(
     ensures { out.new ≡ pasted out.old at
         (stretch_letters reference.now false leftmost bases) }
 {
-    put_stretch_reverse(reference, leftmost, bases, table, out, at);
+    put_strand::<false>(reference, leftmost, bases, table, out, at);
 }
 
 #[unsafe(no_mangle)]
@@ -73,7 +73,10 @@ pub extern "C" fn bench_lengths_fault(
     ensures { result ≡ lengths_number raw
         (lengths_found (lengths_given fixed (non_negative each) reads section.now)) }
 {
-    lengths_fault(section, fixed, each, reads, raw)
+    match lengths_fault(section, fixed, each, reads, raw) {
+        Ok(()) => 0,
+        Err(refusal) => refusal.number(),
+    }
 }
 
 #[unsafe(no_mangle)]

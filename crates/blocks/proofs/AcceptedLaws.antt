@@ -7,6 +7,8 @@ use mathlib.Core.List.{List, flatten}
 use lib.ListN.{length}
 use lib.Dec.{eqb}
 use borrow.Author.Tests.{eqb-true}
+use Rattle.std.specs.Prelude.{Ok}
+use Rattle.format.specs.declared.BlockSummary.{BlockSummary}
 use Rattle.base.specs.Lists.{AllBytes, any, total}
 use Rattle.base.specs.Answer.{found, refused, refused_as}
 use Rattle.base.proofs.AnswerLaws.{found-same, checked-found, and_then-parts, found-refused_as}
@@ -22,7 +24,6 @@ use Rattle.format.specs.Lengths.{dna_size_wrong, n_section_wrong, length_faults}
 use Rattle.format.specs.WellFormed.{BlockDivision}
 use Rattle.format.specs.Joined.{block_reads, block_counts}
 use Rattle.format.specs.BlockAnswer.{header_refused, lengths_answer, dna_answer}
-use Rattle.format.specs.declared.BlockOutcome.TheVariants as outcomes
 use Rattle.format.proofs.BlockLaws.{section-bytes}
 use Rattle.lengths.specs.Given.{lengths_found, lengths_number}
 use Rattle.format.specs.Outcome.{accepted_block}
@@ -43,17 +44,26 @@ pub record Judged (differences : Bool) (bases : ℕ) (reference input : List ℕ
 
 judged-accepted : (differences : Bool) (bases : ℕ) (reference input : List ℕ) (bytes : ℕ)
     (counts : Counts) (answer : Walk BlockDivision) → dna_answer bases reference input ≡ answer
-    → outcomes.Accepted bytes counts ≡ answer_of differences reference bases answer
+    → Ok (record { bytes = bytes; counts = counts }) ≡ answer_of differences reference bases answer
     → Judged differences bases reference input bytes counts
 unfolding answer_of
 judged-accepted differences bases reference input bytes counts (found divided next) is e =
-    let n : next ≡ bytes = cc in
-    record { divided = divided; answer = is ∙ ap (found divided) n; counts_are = cc }
+    let same : ◌≡◌ {A = BlockSummary} (record { bytes = bytes; counts = counts })
+    (record {
+      bytes = next;
+      counts = counts_of (counts_with differences (block_counts reference bases divided));
+    }) =
+    cc in
+    record {
+      divided = divided;
+      answer = is ∙ ap (found divided) (sym (ap (λ (b : BlockSummary). b.bytes) same));
+      counts_are = ap (λ (b : BlockSummary). b.counts) same;
+    }
 judged-accepted differences bases reference input bytes counts (refused why) is e =
     let z : ◌≡◌ {A = ℕ} 0 1 = cc in absurd (omega arith)
 
 pub block-judged : (differences : Bool) (bases : ℕ) (reference input : List ℕ) (bytes : ℕ)
-    (counts : Counts) → outcomes.Accepted bytes counts ≡ judged differences bases reference input
+    (counts : Counts) → Ok (record { bytes = bytes; counts = counts }) ≡ judged differences bases reference input
     → Judged differences bases reference input bytes counts
 block-judged differences bases reference input bytes counts e =
     judged-accepted differences bases reference input bytes counts
@@ -62,11 +72,11 @@ block-judged differences bases reference input bytes counts e =
 -- With differences, its outcome has all counts.
 pub judged-outcome : (bases : ℕ) (reference input : List ℕ) (bytes : ℕ) (counts : Counts)
     (judged' : Judged true bases reference input bytes counts)
-    → outcome_of_block (outcomes.Accepted bytes counts)
+    → outcome_of_block (Ok (record { bytes = bytes; counts = counts }))
     ≡ accepted_block bytes (block_counts reference bases judged'.divided)
 unfolding outcome_of_block counts_with
 judged-outcome bases reference input bytes counts judged' =
-    ap (λ (c : Counts). outcome_of_block (outcomes.Accepted bytes c)) judged'.counts_are
+    ap (λ (c : Counts). outcome_of_block (Ok (record { bytes = bytes; counts = c }))) judged'.counts_are
 
 -- ---- An accepted block, taken apart
 

@@ -1,5 +1,5 @@
 -- What judging a block gives, way by way, as code finds it. Assumes nothing.
-use mathlib.Core.Path.{◌≡◌, refl, sym, ap, ap₂, ◌∙◌}
+use mathlib.Core.Path.{◌≡◌, refl, sym, ap, ◌∙◌}
 use Prim.Native.Nat.{ℕ, ◌≤◌, ◌<◌}
 use native.Mathlib.Omega.{arith}
 use mathlib.Core.Bool.{Bool, true, false, cond, not}
@@ -7,6 +7,7 @@ use mathlib.Core.List.{List, [], ◌∷◌}
 use lib.ListN.{length}
 use lib.Dec.{eqb}
 use borrow.Author.Tests.{lt-ltb, le-ltb}
+use Rattle.std.specs.Prelude.{Ok, Err}
 use Rattle.base.specs.Lists.{AllBytes, total}
 use Rattle.base.specs.Faults.{fault}
 use Rattle.base.specs.Answer.{Scan, first_number, checked, found, refused, and_then, refused_as}
@@ -15,7 +16,7 @@ use Rattle.base.proofs.AnswerLaws.{refused_as-found, cond_yes, cond_no}
 use Rattle.base.proofs.ListLaws.{by_test}
 use Rattle.dna.specs.Reference.{reference_size_wrong, ReferenceFits}
 use Rattle.dna.specs.SizesAt.{lengths_given}
-use Rattle.dna.specs.Walk.{of_read, refused_at, section_walk}
+use Rattle.dna.specs.Walk.{ReadRefusal, of_read, refused_at, section_walk}
 use Rattle.dna.specs.declared.Counts.{Counts}
 use Rattle.format.specs.Header.{header_of, read_count}
 use Rattle.format.specs.Sections.{dna_number, size_number, n_number, section_of, block_length}
@@ -23,7 +24,6 @@ use Rattle.format.specs.HeaderFaults.{header_faults}
 use Rattle.format.specs.Lengths.{dna_size_wrong, n_section_wrong, length_faults}
 use Rattle.format.specs.Joined.{block_counts}
 use Rattle.format.specs.BlockAnswer.{header_refused, lengths_answer, dna_trailing, dna_answer}
-use Rattle.format.specs.declared.BlockOutcome.TheVariants as outcomes
 use Rattle.format.proofs.AnswerNumbers.{after_lengths, past-reference, dna-reference}
 use Rattle.format.proofs.BlockLaws.{section-bytes}
 use Rattle.lengths.specs.Given.{lengths_found, lengths_number}
@@ -31,14 +31,13 @@ use Rattle.lengths.proofs.GivenLaws.{LengthsKnown, known-zero}
 use Rattle.reads.specs.Walked.{walk_answer}
 use Rattle.reads.specs.declared.Read.{Read}
 use Rattle.reads.specs.declared.ReadCursor.{ReadCursor}
-use Rattle.reads.specs.declared.Walked.TheVariants as walks
 use Rattle.blocks.specs.Judged.{block_source, is_fixed, each_length, block_walk, answer_of, judged}
 use Rattle.blocks.proofs.WalkedLaws.{SectionWalked, walked_refused, walked_found}
 
 module _ (differences : Bool) (bases : ℕ) (reference input : List ℕ) where
   -- 1.
   pub judge_reference : reference_size_wrong bases reference ≡ true
-      → outcomes.Refused 1 0 ≡ judged differences bases reference input
+      → Err (of_read 0 1) ≡ judged differences bases reference input
   unfolding answer_of
   judge_reference wrong =
       sym
@@ -48,14 +47,14 @@ module _ (differences : Bool) (bases : ℕ) (reference input : List ℕ) where
   module _ (fits : ReferenceFits bases reference) where
     -- 2 to 8.
     pub judge_header : (number : ℕ) → number ≡ first_number (header_faults input)
-        → (number ≡ 0 → ⊥) → outcomes.Refused number 0 ≡ judged differences bases reference input
+        → (number ≡ 0 → ⊥) → Err (of_read 0 number) ≡ judged differences bases reference input
     unfolding answer_of
     judge_header number e some =
         sym
         (ap (answer_of differences reference bases)
         (past-reference bases reference input fits.fits
         ∙ checked-first (refused_at 0) (header_faults input) _ (omega arith))
-        ∙ ap (λ (n : ℕ). outcomes.Refused n 0) (sym e))
+        ∙ ap (λ (n : ℕ). Err (of_read 0 n)) (sym e))
 
     module _ (accepted : header_refused input ≡ false) where
       header_passed : dna_answer bases reference input
@@ -85,7 +84,7 @@ module _ (differences : Bool) (bases : ℕ) (reference input : List ℕ) where
       pub judge_lengths : (number : ℕ)
           → number
           ≡ lengths_number (header_of input).l_dna_raw (lengths_found (lengths_answer input))
-          → (number ≡ 0 → ⊥) → outcomes.Refused number 0 ≡ judged differences bases reference input
+          → (number ≡ 0 → ⊥) → Err (of_read 0 number) ≡ judged differences bases reference input
       unfolding answer_of
       judge_lengths number e some =
           sym
@@ -124,7 +123,7 @@ module _ (differences : Bool) (bases : ℕ) (reference input : List ℕ)
     (right : LengthsRight bases reference input) where
   -- 11 by length.
   pub judge_n : n_section_wrong input ≡ true
-      → outcomes.Refused 11 0 ≡ judged differences bases reference input
+      → Err (of_read 0 11) ≡ judged differences bases reference input
   unfolding answer_of length_faults checked
   judge_n wrong =
       sym
@@ -150,21 +149,21 @@ module _ (differences : Bool) (bases : ℕ) (reference input : List ℕ)
     long = right.are
 
     -- 11 to 20.
-    pub judge_refused : (number read : ℕ)
-        → walks.Refused number read ≡ walk_answer differences reference (block_walk bases input)
-        → outcomes.Refused number read ≡ judged differences bases reference input
+    pub judge_refused : (why : ReadRefusal)
+        → Err why ≡ walk_answer differences reference (block_walk bases input)
+        → Err why ≡ judged differences bases reference input
     unfolding answer_of
-    judge_refused number read e =
+    judge_refused why e =
         sym
         (ap (answer_of differences reference bases)
         (reads_passed
         ∙ and_then-refused _
         (walked_refused (block_source bases input) (is_fixed input) (each_length input)
         right.lengths right.after (section-bytes input dna_number bytes)
-        (section-bytes input size_number bytes) long differences reference number read e)))
+        (section-bytes input size_number bytes) long differences reference why e)))
 
     module _ (cursor : ReadCursor) (last : Read) (counts : Counts)
-        (walked : walks.At cursor last counts
+        (walked : Ok (record { cursor = cursor; last = last; counts = counts })
         ≡ walk_answer differences reference (block_walk bases input)) where
       pub section_walked : SectionWalked (block_source bases input) (is_fixed input)
           (each_length input) right.lengths differences reference cursor counts
@@ -176,7 +175,7 @@ module _ (differences : Bool) (bases : ℕ) (reference input : List ℕ)
 
       -- 21.
       pub judge_trailing : cursor.at < length (section_of input dna_number)
-          → outcomes.Refused 21 0 ≡ judged differences bases reference input
+          → Err (of_read 0 21) ≡ judged differences bases reference input
       unfolding answer_of checked dna_trailing
       judge_trailing left =
           sym
@@ -200,9 +199,9 @@ module _ (differences : Bool) (bases : ℕ) (reference input : List ℕ)
       -- None fits.
       pub judge_accepted : length (section_of input dna_number) ≤ cursor.at → (size : ℕ)
           → size ≡ block_length (header_of input)
-          → outcomes.Accepted size counts ≡ judged differences bases reference input
+          → Ok (record { bytes = size; counts = counts }) ≡ judged differences bases reference input
       unfolding answer_of block_counts
       judge_accepted none size e =
           sym
           (ap (answer_of differences reference bases) (block_accepted none)
-          ∙ sym (ap₂ outcomes.Accepted e section_walked.counts_are))
+          ∙ sym (λ t. Ok (record { bytes = e t; counts = section_walked.counts_are t })))

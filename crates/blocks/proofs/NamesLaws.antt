@@ -5,6 +5,7 @@ use native.Mathlib.Omega.{arith}
 use mathlib.Core.Bool.{Bool, true, false, cond}
 use mathlib.Core.List.{List, [], flatten, map}
 use lib.ListN.{length}
+use Rattle.std.specs.Prelude.{Some, None}
 use Rattle.base.specs.Lists.{places_from}
 use Rattle.base.specs.Answer.{found, refused}
 use Rattle.base.specs.Paste.{pasted}
@@ -18,7 +19,6 @@ use Rattle.format.specs.Header.{header_of, flag_set, names_flag, read_count}
 use Rattle.format.specs.Sections.{names_number, section_of}
 use Rattle.format.specs.BlockAnswer.{names_answer}
 use Rattle.names.specs.Judged.{judged}
-use Rattle.names.specs.declared.NamesJudged.TheVariants as answers
 use Rattle.blocks.specs.Named.{names_judged, names_found, name_count}
 
 -- There is a name for each row.
@@ -40,13 +40,13 @@ pub record NamesKnown (input : List ℕ) (bytes : ℕ) : Type 0 where
 
 -- Bytes are answered where the test does not hold.
 judged-bytes : (invalid : Bool) (size bytes : ℕ)
-    → cond invalid answers.Invalid (answers.Bytes size) ≡ answers.Bytes bytes
+    → cond invalid None (Some size) ≡ Some bytes
     → (invalid ≡ false) × (bytes ≡ size)
 judged-bytes true size bytes e = let z : ◌≡◌ {A = ℕ} 0 1 = cc in absurd (omega arith)
 judged-bytes false size bytes e = (refl, cc)
 
 judged_invalid : (invalid : Bool) (size : ℕ)
-    → cond invalid answers.Invalid (answers.Bytes size) ≡ answers.Invalid → invalid ≡ true
+    → cond invalid None (Some size) ≡ None → invalid ≡ true
 judged_invalid true size e = refl
 judged_invalid false size e = let z : ◌≡◌ {A = ℕ} 0 1 = cc in absurd (omega arith)
 
@@ -54,14 +54,14 @@ module _ (input : List ℕ) where
   stored : Bool
   stored = flag_set (header_of input).flags names_flag
 
-  pub names-known : (bytes : ℕ) → names_judged input ≡ answers.Bytes bytes → NamesKnown input bytes
+  pub names-known : (bytes : ℕ) → names_judged input ≡ Some bytes → NamesKnown input bytes
   unfolding stored names_judged names_found name_count names_answer names_given judged names_read flatten
   names-known bytes e =
       let reads : ℕ = read_count (header_of input) in
       let section : List ℕ = section_of input names_number in
       by_test stored
       (λ t.
-      let is = judged-bytes (names_invalid reads section) _ bytes (sym (cond_yes (answers.Bytes 0) t refl) ∙ e) in
+      let is = judged-bytes (names_invalid reads section) _ bytes (sym (cond_yes (Some 0) t refl) ∙ e) in
       let found-is : names_found input ≡ names_read reads section = cond_yes [] t refl in
       record {
         end = length section;
@@ -77,7 +77,7 @@ module _ (input : List ℕ) where
       })
       (λ t.
       let none : names_found input ≡ [] = cond_no _ t refl in
-      let no_bytes : answers.Bytes 0 ≡ answers.Bytes bytes = sym (cond_no _ t refl) ∙ e in
+      let no_bytes : Some 0 ≡ Some bytes = sym (cond_no _ t refl) ∙ e in
       let no : 0 ≡ bytes = cc in
       record {
         end = 0;
@@ -89,17 +89,17 @@ module _ (input : List ℕ) where
       })
 
   -- Names that are not judged to be any are refused with 40.
-  pub names_none : names_judged input ≡ answers.Invalid → names_answer input ≡ refused 40
+  pub names_none : names_judged input ≡ None → names_answer input ≡ refused 40
   unfolding stored names_judged names_answer names_given judged
   names_none e =
       let reads : ℕ = read_count (header_of input) in
       let section : List ℕ = section_of input names_number in
       by_test stored
       (λ t.
-      let is = judged_invalid (names_invalid reads section) _ (sym (cond_yes (answers.Bytes 0) t refl) ∙ e) in
+      let is = judged_invalid (names_invalid reads section) _ (sym (cond_yes (Some 0) t refl) ∙ e) in
       cond_yes _ t (cond_yes _ is refl))
       (λ t.
-      let no : answers.Bytes 0 ≡ answers.Invalid = sym (cond_no _ t refl) ∙ e in
+      let no : Some 0 ≡ None = sym (cond_no _ t refl) ∙ e in
       let z : ◌≡◌ {A = ℕ} 0 1 = cc in
       absurd (omega arith))
 

@@ -7,6 +7,8 @@ use mathlib.Core.List.{List}
 use lib.ListN.{length}
 use lib.Dec.{ltb, eqb}
 use borrow.Author.Tests.{ltb-false, eqb-true}
+use Rattle.std.specs.Prelude.{Result}
+use Rattle.dna.specs.declared.refusals.BlockRefusal.{BlockRefusal}
 use Rattle.base.specs.Groups.{group_count}
 use Rattle.base.proofs.Tests.{or-neither, not-false}
 use Rattle.dna.specs.Reference.{max_reference_bases, reference_size_wrong, ReferenceFits}
@@ -81,7 +83,7 @@ module _ (bases : ℕ) (reference input : List ℕ) (ready : BlockReady bases re
 
 -- What a call of the walk gives is what the same walk gives.
 pub done-is : {walk walk' : Walk Arrived} {write count : Bool} {reference : List ℕ}
-    {answer : Walked} {letters_before letters_now ends_before ends_now : List ℕ} → walk ≡ walk'
+    {answer : Result Walked BlockRefusal} {letters_before letters_now ends_before ends_now : List ℕ} → walk ≡ walk'
     → WalkDone walk write count reference answer letters_before letters_now ends_before ends_now
     → WalkDone walk' write count reference answer letters_before letters_now ends_before ends_now
 done-is e done = rw e at done

@@ -4,19 +4,21 @@ use Prim.Native.Nat.{ℕ}
 use native.Mathlib.Omega.{arith}
 use mathlib.Core.Bool.{Bool}
 use mathlib.Core.List.{List}
+use Rattle.std.specs.Prelude.{Result, Err}
+use Rattle.reads.specs.declared.Walked.{Walked}
+use Rattle.reads.proofs.TurnLaws.{walked_at}
 use Rattle.base.specs.Lists.{AllBytes}
 use Rattle.base.specs.Answer.{found, refused}
 use Rattle.dna.specs.SizesAt.{lengths_given}
 use Rattle.dna.specs.Counts.{Counted}
 use Rattle.dna.specs.Division.{Division, division_counts}
-use Rattle.dna.specs.Walk.{Walk, refused_at, section_walk}
+use Rattle.dna.specs.Walk.{ReadRefusal, Walk, section_walk}
 use Rattle.dna.specs.declared.Counts.{Counts}
 use Rattle.reads.specs.ReadWalk.{Source}
 use Rattle.reads.specs.Cursor.{Arrived, first_read, read_steps}
 use Rattle.reads.specs.Walked.{counts_with, reads_counts, counts_of, no_read, last_of, walk_answer}
 use Rattle.reads.specs.declared.Read.{Read}
 use Rattle.reads.specs.declared.ReadCursor.{ReadCursor}
-use Rattle.reads.specs.declared.Walked.TheVariants as walks
 use Rattle.reads.proofs.ReadLaws.{AllReads, reads_refused, reads_found}
 use Rattle.reads.proofs.AllReadLaws.{all_counts}
 
@@ -45,34 +47,33 @@ module _ (source : Source) (fixed : Bool) (each : ℕ) (lengths' : List ℕ) (af
   walk = read_steps source.reads source (first_read fixed each)
 
   -- A refusal is that of the section.
-  pub walked_refused : (number read : ℕ)
-      → walks.Refused number read ≡ walk_answer differences reference walk
-      → section ≡ refused_at read number
+  pub walked_refused : (refusal : ReadRefusal)
+      → Err refusal ≡ walk_answer differences reference walk
+      → section ≡ refused refusal
   unfolding walk_answer
-  walked_refused number read e =
-      let go : (answer : Walk Division) → section ≡ answer → answer ≡ refused_at read number
+  walked_refused refusal e =
+      let go : (answer : Walk Division) → section ≡ answer → answer ≡ refused refusal
       = elim [
         | found division end ↦ λ is.
             let all : AllReads source fixed each lengths' division end =
             reads_found source fixed each lengths' after bytes size-bytes long division end is in
-            let z : walks.Refused number read ≡ walk_answer differences reference
+            let z : Err refusal ≡ walk_answer differences reference
             (found all.arrived end) =
             e ∙ ap (walk_answer differences reference) all.steps in
             let o : ◌≡◌ {A = ℕ} 0 1 = cc in absurd (omega arith)
         | refused why ↦ λ is.
-            let z : walks.Refused number read ≡ walks.Refused why.number why.read =
+            let z : ◌≡◌ {A = Result Walked ReadRefusal} (Err refusal) (Err why) =
             e
             ∙ ap (walk_answer differences reference)
             (reads_refused source fixed each lengths' after bytes size-bytes long why is) in
-            let n : why.number ≡ number = cc in
-            let r : why.read ≡ read = cc in
-            λ t. refused (record { number = n t; read = r t })
+            let same : why ≡ refusal = cc in
+            ap refused same
       ] in
       go section refl
 
   -- Where it arrived, the section was walked.
   pub walked_found : (cursor : ReadCursor) (last : Read) (counts : Counts)
-      → walks.At cursor last counts
+      → walked_at cursor last counts
       ≡ walk_answer differences reference
       (read_steps source.reads source (first_read fixed each))
       → SectionWalked source fixed each lengths' differences reference cursor counts
@@ -83,7 +84,7 @@ module _ (source : Source) (fixed : Bool) (each : ℕ) (lengths' : List ℕ) (af
       → SectionWalked source fixed each lengths' differences reference cursor counts
       = elim [
         | refused why ↦ λ is.
-            let z : walks.At cursor last counts ≡ walks.Refused why.number why.read =
+            let z : walked_at cursor last counts ≡ Err why =
             e
             ∙ ap (walk_answer differences reference)
             (reads_refused source fixed each lengths' after bytes size-bytes long why is) in
@@ -92,11 +93,18 @@ module _ (source : Source) (fixed : Bool) (each : ℕ) (lengths' : List ℕ) (af
             let all : AllReads source fixed each lengths' division end =
             reads_found source fixed each lengths' after bytes size-bytes long division end is in
             let sum : Counted = reads_counts differences reference all.arrived.reads in
-            let z : walks.At cursor last counts
-            ≡ walks.At all.arrived.cursor (last_of no_read all.arrived.reads) (counts_of sum) =
+            let z : walked_at cursor last counts
+            ≡ walked_at all.arrived.cursor (last_of no_read all.arrived.reads) (counts_of sum) =
             e ∙ ap (walk_answer differences reference) all.steps in
-            let there : cursor ≡ all.arrived.cursor = cc in
-            let counted : counts ≡ counts_of sum = cc in
+            let same : ◌≡◌ {A = Walked} (record { cursor = cursor; last = last; counts = counts })
+            (record {
+              cursor = all.arrived.cursor;
+              last = last_of no_read all.arrived.reads;
+              counts = counts_of sum;
+            }) =
+            cc in
+            let there : cursor ≡ all.arrived.cursor = ap (λ (w : Walked). w.cursor) same in
+            let counted : counts ≡ counts_of sum = ap (λ (w : Walked). w.counts) same in
             record {
               division = division;
               end = end;

@@ -1,19 +1,18 @@
 -- What judging a block with 1 to 21 answers, in the code's terms; its names are judged after it.
 -- Where differences are not asked for, they are counted as 0: decoding judges first, and counts
 -- them as it writes.
-use Rattle.std.specs.Prelude.{◌≡◌, ℕ, Bool, false, List}
+use Rattle.std.specs.Prelude.{◌≡◌, ℕ, Bool, false, List, Result, Ok, Err}
 use Rattle.base.specs.Numbers.{non_negative}
 use Rattle.base.specs.Answer.{found, refused}
 use Rattle.dna.specs.Reference.{ReferenceFits}
-use Rattle.dna.specs.Walk.{Walk}
+use Rattle.dna.specs.Walk.{Walk, ReadRefusal}
 use Rattle.format.specs.Header.{header_of, flag_set, same_length_flag, read_count}
 use Rattle.format.specs.Sections.{dna_number, size_number, n_number, section_of}
 use Rattle.format.specs.Lengths.{n_section_wrong}
 use Rattle.format.specs.WellFormed.{BlockDivision}
 use Rattle.format.specs.Joined.{block_counts}
 use Rattle.format.specs.BlockAnswer.{header_refused, lengths_answer, dna_answer}
-use Rattle.format.specs.declared.BlockOutcome.{BlockOutcome}
-use Rattle.format.specs.declared.BlockOutcome.TheVariants as outcomes
+use Rattle.format.specs.declared.BlockSummary.{BlockSummary}
 use Rattle.lengths.specs.Given.{lengths_found, lengths_number}
 use Rattle.reads.specs.ReadWalk.{Source}
 use Rattle.reads.specs.Cursor.{source_of, Arrived, first_read, read_steps}
@@ -52,12 +51,13 @@ pub record BlockReady (bases : ℕ) (reference input : List ℕ) : Type 0 where
 
 -- The answer on a block.
 unfoldable pub answer_of : (differences : Bool) (reference : List ℕ) (bases : ℕ)
-    (answer : Walk BlockDivision) → BlockOutcome
+    (answer : Walk BlockDivision) → Result BlockSummary ReadRefusal
 answer_of differences reference bases (found divided next) =
-    outcomes.Accepted next (counts_of (counts_with differences (block_counts reference bases divided)))
-answer_of differences reference bases (refused why) = outcomes.Refused why.number why.read
+    Ok (record { bytes = next; counts = counts_of (counts_with differences (block_counts reference bases divided)) })
+answer_of differences reference bases (refused why) = Err why
 
 -- Judging with 1 to 21.
-abbrev pub judged : (differences : Bool) (bases : ℕ) (reference input : List ℕ) → BlockOutcome
+abbrev pub judged : (differences : Bool) (bases : ℕ) (reference input : List ℕ)
+    → Result BlockSummary ReadRefusal
 judged differences bases reference input =
     answer_of differences reference bases (dna_answer bases reference input)

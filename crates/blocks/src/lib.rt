@@ -9,6 +9,7 @@ ghost use Rattle.base.specs.Answer.{found};
 ghost use Rattle.base.specs.Lists.{places_from};
 ghost use Rattle.base.specs.Paste.{pasted};
 ghost use Rattle.dna.specs.Reference.{ReferenceFits};
+ghost use Rattle.dna.specs.Refused.{numbered_block};
 ghost use Rattle.format.specs.Header.{header_of, read_count};
 ghost use Rattle.format.specs.Lengths.{n_section_wrong};
 ghost use Rattle.format.specs.WellFormed.{BlockDivision};
@@ -29,18 +30,13 @@ ghost use Rattle.blocks.specs.Named.{names_judged, names_found, name_count, Name
 ghost use Rattle.blocks.specs.Decoding.{Decodable, ReadsWritten};
 
 use dna::Counts;
-use dna::refusals::{
-    CAPACITY_TOO_SMALL, DNA_TRAILING, N_SECTION_WRONG, NAMES_INVALID, REFERENCE_SIZE_WRONG,
-};
-use format::BlockOutcome;
+use dna::refusals::{BlockRefusal, Refusal};
+use format::{BlockOutcome, BlockSummary};
 use header::faults::header_fault;
-use header::fields::{l_read, names_stored, read_count, same_length};
-use header::sections::{
-    DNA_SECTION, N_SECTION, NAMES_SECTION, SIZE_SECTION, block_length, section, section_length,
-};
-use integers::size32;
+use header::sections::{DNA_SECTION, N_SECTION, NAMES_SECTION, SIZE_SECTION, section};
+use header::table::Table;
 use lengths::blocks::lengths_fault;
-use names::{NamesJudged, put_names};
+use names::put_names;
 use reads::{Walked, first_read, walk};
 use record_letters::letters::pair_table;
 use reference::{reference_size_wrong, word_table};
@@ -50,14 +46,11 @@ pub fn validate_block(bases: u64, reference: &[u8], input: &[u8]) -> BlockOutcom
     ensures { outcome_of_block result
         ≡ validated_block bases reference.now input.now }
 {
-    let judgement = judge(bases, reference, input, true);
-    let BlockOutcome::Accepted(bytes, counts) = judgement else {
-        return judgement;
+    let block = judge(bases, reference, input, true)?;
+    let Some(_) = judge_names(input) else {
+        return Err(Refusal::NamesInvalid.into());
     };
-    let NamesJudged::Bytes(_) = judge_names(input) else {
-        return BlockOutcome::Refused(NAMES_INVALID, 0);
-    };
-    BlockOutcome::Accepted(bytes, counts)
+    Ok(block)
 }
 
 // Decodes the block at the input's start: the letters of its reads one after the other and the end
@@ -82,52 +75,44 @@ pub fn decode(
         (buffers_of letters.old ends.old names.old
         name_ends.old)) }
 {
-    let judgement = judge(bases, reference, input, false);
-    let BlockOutcome::Accepted(bytes, counts) = judgement else {
-        return judgement;
+    let block = judge(bases, reference, input, false)?;
+    let Some(size) = judge_names(input) else {
+        return Err(Refusal::NamesInvalid.into());
     };
-    let NamesJudged::Bytes(size) = judge_names(input) else {
-        return BlockOutcome::Refused(NAMES_INVALID, 0);
-    };
-    if room_too_small(letters.len(), ends.len(), counts) {
-        return BlockOutcome::Refused(CAPACITY_TOO_SMALL, 0);
+    if room_too_small(letters.len(), ends.len(), block.counts) {
+        return Err(Refusal::CapacityTooSmall.into());
     }
     if names_room_too_small(names.len(), name_ends.len(), size, name_count(input)) {
-        return BlockOutcome::Refused(CAPACITY_TOO_SMALL, 0);
+        return Err(Refusal::CapacityTooSmall.into());
     }
     write_names(input, size, names, name_ends);
-    write_reads(bases, reference, input, bytes, letters, ends)
+    Ok(write_reads(bases, reference, input, block.bytes, letters, ends))
 }
 
 // 22: the letters or the ends do not fit.
 fn room_too_small(letters: usize, ends: usize, counts: Counts) -> bool
     ensures { result ≡ ltb letters counts.letters || ltb ends counts.reads }
 {
-    if (letters as u64) < counts.letters {
-        return true;
-    }
-    (ends as u64) < counts.reads
+    (letters as u64) < counts.letters || (ends as u64) < counts.reads
 }
 
 // 22: the names or their ends do not fit.
 fn names_room_too_small(names: usize, ends: usize, size: u64, count: usize) -> bool
     ensures { result ≡ ltb names size || ltb ends count }
 {
-    if (names as u64) < size {
-        return true;
-    }
-    ends < count
+    (names as u64) < size || ends < count
 }
 
 // Judges the names of a block whose header is accepted; without flag 0x8 they stay unread.
-fn judge_names(input: &[u8]) -> NamesJudged
+fn judge_names(input: &[u8]) -> Option<u64>
     requires { header_refused input.now ≡ false }
     ensures { result ≡ names_judged input.now }
 {
-    if names_stored(input) {
-        return names::judge(section(input, NAMES_SECTION), size32(read_count(input)));
+    let table = Table { input };
+    if table.names_stored() {
+        return names::judge(section(input, NAMES_SECTION), table.read_count() as usize);
     }
-    NamesJudged::Bytes(0)
+    Some(0)
 }
 
 // How many names it has.
@@ -135,8 +120,9 @@ fn name_count(input: &[u8]) -> usize
     requires { header_refused input.now ≡ false }
     ensures { result ≡ name_count input.now }
 {
-    if names_stored(input) {
-        return size32(read_count(input));
+    let table = Table { input };
+    if table.names_stored() {
+        return table.read_count() as usize;
     }
     0
 }
@@ -149,10 +135,11 @@ fn write_names(input: &[u8], size: u64, names: &mut [u8], ends: &mut [u32])
         × (ends.new ≡ pasted ends.old 0
         (places_from 0 (map length (names_found input.now)))) }
 {
-    if names_stored(input) {
+    let table = Table { input };
+    if table.names_stored() {
         put_names(
             section(input, NAMES_SECTION),
-            size32(read_count(input)),
+            table.read_count() as usize,
             names,
             ends,
         );
@@ -167,7 +154,7 @@ fn write_reads(
     bytes: u64,
     letters: &mut [u8],
     ends: &mut [u32],
-) -> BlockOutcome
+) -> BlockSummary
     requires { Decodable bases reference.now input.now bytes (length letters.old)
         (length ends.old) }
     ensures { (divided : BlockDivision)
@@ -181,27 +168,21 @@ fn write_reads(
     let walked = walk_block(
         bases, reference, input, true, true, &forward, &reverse, &pairs, letters, ends,
     );
-    let Walked::At(_, _, counts) = walked else {
-        return BlockOutcome::Refused(0, 0);
-    };
-    BlockOutcome::Accepted(bytes, counts)
+    BlockSummary {
+        bytes,
+        counts: walked.unwrap().counts,
+    }
 }
 
 // Judges a block with 1 to 21; its differences are counted where `count` is set.
 fn judge(bases: u64, reference: &[u8], input: &[u8], count: bool) -> BlockOutcome
-    ensures { result ≡ judged count bases reference.now input.now }
+    ensures { numbered_block result ≡ judged count bases reference.now input.now }
 {
     if reference_size_wrong(bases, reference) {
-        return BlockOutcome::Refused(REFERENCE_SIZE_WRONG, 0);
+        return Err(Refusal::ReferenceSizeWrong.into());
     }
-    let header = header_fault(input);
-    if header != 0 {
-        return BlockOutcome::Refused(header, 0);
-    }
-    let lengths = lengths_fault(input);
-    if lengths != 0 {
-        return BlockOutcome::Refused(lengths, 0);
-    }
+    header_fault(input)?;
+    lengths_fault(input)?;
     judge_reads(bases, reference, input, count)
 }
 
@@ -210,20 +191,20 @@ fn judge_reads(bases: u64, reference: &[u8], input: &[u8], count: bool) -> Block
     requires { (ReferenceFits bases reference.now) × (header_refused input.now ≡ false)
         × (lengths_number (header_of input.now).l_dna_raw
         (lengths_found (lengths_answer input.now)) ≡ 0) }
-    ensures { result ≡ judged count bases reference.now input.now }
+    ensures { numbered_block result ≡ judged count bases reference.now input.now }
 {
     if n_section_wrong(input) {
-        return BlockOutcome::Refused(N_SECTION_WRONG, 0);
+        return Err(Refusal::NSectionWrong.into());
     }
-    match walk_unwritten(bases, reference, input, count) {
-        Walked::Refused(number, read) => BlockOutcome::Refused(number, read),
-        Walked::At(cursor, _, counts) => {
-            if cursor.at < section_length(input, DNA_SECTION as usize) {
-                return BlockOutcome::Refused(DNA_TRAILING, 0);
-            }
-            BlockOutcome::Accepted(block_length(input) as u64, counts)
-        }
+    let walked = walk_unwritten(bases, reference, input, count)?;
+    let table = Table { input };
+    if walked.cursor.at < table.section_length(DNA_SECTION as usize) {
+        return Err(Refusal::DnaTrailing.into());
     }
+    Ok(BlockSummary {
+        bytes: table.block_length() as u64,
+        counts: walked.counts,
+    })
 }
 
 // 11 by length: the N section has not a bit for each read.
@@ -231,13 +212,19 @@ fn n_section_wrong(input: &[u8]) -> bool
     requires { header_refused input.now ≡ false }
     ensures { result ≡ n_section_wrong input.now }
 {
-    section_length(input, N_SECTION as usize) != (size32(read_count(input)) + 7) / 8
+    let table = Table { input };
+    table.section_length(N_SECTION as usize) != (table.read_count() as usize + 7) / 8
 }
 
 // Walks all reads of a block and writes nothing.
-fn walk_unwritten(bases: u64, reference: &[u8], input: &[u8], count: bool) -> Walked
+fn walk_unwritten(
+    bases: u64,
+    reference: &[u8],
+    input: &[u8],
+    count: bool,
+) -> Result<Walked, BlockRefusal>
     requires { BlockReady bases reference.now input.now }
-    ensures { result ≡ walk_answer count reference.now
+    ensures { numbered_block result ≡ walk_answer count reference.now
         (block_walk bases input.now) }
 {
     let words = [0u64; 256];
@@ -270,7 +257,7 @@ fn walk_block(
     pair_table: &[u16; 256],
     letters: &mut [u8],
     ends: &mut [u32],
-) -> Walked
+) -> Result<Walked, BlockRefusal>
     requires block_ready { BlockReady bases reference.now input.now }
     requires tables_made { write ≡ true
         → TablesMade forward_table.now reverse_table.now pair_table.now
@@ -283,7 +270,8 @@ fn walk_block(
     let dna = section(input, DNA_SECTION);
     let sizes = section(input, SIZE_SECTION);
     let ns = section(input, N_SECTION);
-    let reads = size32(read_count(input));
+    let table = Table { input };
+    let reads = table.read_count() as usize;
     walk(
         reference,
         dna,
@@ -291,7 +279,7 @@ fn walk_block(
         ns,
         reads,
         bases,
-        first_read(same_length(input), l_read(input)),
+        first_read(table.same_length(), table.l_read()),
         reads,
         count,
         write,

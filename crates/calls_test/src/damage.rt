@@ -3,9 +3,9 @@
 // is still good. The read is 0, but for the case of 11 bases, in which read 8, at position 8,
 // leaves the reference, and for the N section's byte of the second group, whose first read is 8.
 use crate::block::{BLOCK_CAPACITY, block_buffer, put_bytes_at, varied_reads, write_block};
-use crate::parts::first_bytes;
 use crate::show::{Room, room_of, show, show_under};
 use crate::ten_reads::{write_good, write_ten};
+use case_text::print::part;
 use integers::{put_u16, put_u32};
 use std::io;
 
@@ -138,12 +138,7 @@ pub fn buffers() -> Room {
 fn run_input(rt: &impl Print, label: &[u8], most: usize) -> io::Result<()> {
     let mut block = block_buffer();
     let length = write_good(&mut block);
-    show(
-        rt,
-        label,
-        first_bytes(first_bytes(&block, length), most),
-        buffers(),
-    )
+    show(rt, label, part(&block, 0, length.min(most)), buffers())
 }
 
 // The block under another reference.
@@ -155,7 +150,7 @@ fn run_reference(rt: &impl Print, label: &[u8], bases: u64, reference: &[u8]) ->
         label,
         bases,
         reference,
-        first_bytes(&block, length),
+        part(&block, 0, length),
         buffers(),
     )
 }
@@ -168,7 +163,7 @@ fn run_short_field(rt: &impl Print, label: &[u8], at: usize, number: u16) -> io:
         return Ok(());
     }
     put_u16(&mut block, at, number);
-    show(rt, label, first_bytes(&block, length), buffers())
+    show(rt, label, part(&block, 0, length), buffers())
 }
 
 // The block with a field of four bytes replaced.
@@ -179,7 +174,7 @@ fn run_field(rt: &impl Print, label: &[u8], at: usize, number: u32) -> io::Resul
         return Ok(());
     }
     put_u32(&mut block, at, number);
-    show(rt, label, first_bytes(&block, length), buffers())
+    show(rt, label, part(&block, 0, length), buffers())
 }
 
 // A block of ten perfect reads at 0 with this size section.
@@ -189,7 +184,7 @@ fn run_size_section(rt: &impl Print, label: &[u8], sizes: &[u8]) -> io::Result<(
     put_bytes_at(b"\xc0\xc0\x00\xc0", &mut dna, 20);
     let mut block = block_buffer();
     let length = write_block(varied_reads(10, 40), &dna, sizes, b"\x00\x00", &mut block);
-    show(rt, label, first_bytes(&block, length), buffers())
+    show(rt, label, part(&block, 0, length), buffers())
 }
 
 // The block with this N section.
@@ -201,5 +196,5 @@ fn run_n_section(rt: &impl Print, label: &[u8], ns: &[u8]) -> io::Result<()> {
         ns,
         &mut block,
     );
-    show(rt, label, first_bytes(&block, length), buffers())
+    show(rt, label, part(&block, 0, length), buffers())
 }

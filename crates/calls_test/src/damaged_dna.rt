@@ -4,9 +4,9 @@
 // record, and 0 for 21.
 use crate::block::{block_buffer, put_bytes_at};
 use crate::damage::buffers;
-use crate::parts::first_bytes;
 use crate::show::show;
 use crate::ten_reads::write_ten;
+use case_text::print::part;
 use std::io;
 
 pub fn run_faults(rt: &impl Print) -> io::Result<()> {
@@ -278,7 +278,7 @@ fn run_second(
 ) -> io::Result<()> {
     let mut block = block_buffer();
     let length = write_ten(size, second, ns, &mut block);
-    show(rt, label, first_bytes(&block, length), buffers())
+    show(rt, label, part(&block, 0, length), buffers())
 }
 
 // A perfect read 9 with this N list.
@@ -289,5 +289,5 @@ fn run_list(rt: &impl Print, label: &[u8], list: &[u8]) -> io::Result<()> {
     if 6 < list.len() {
         return Ok(());
     }
-    run_ns(rt, label, first_bytes(&second, 10 + list.len()))
+    run_ns(rt, label, part(&second, 0, 10 + list.len()))
 }

@@ -5,8 +5,8 @@
 // 2 to 32. So one entry alone shows: C on letter 32, where the forward strand has A and the reverse
 // strand C.
 use crate::block::{block_buffer, equal_reads, put_bytes_at, write_block};
-use crate::parts::first_bytes;
 use crate::show::{room_of, show_under};
+use case_text::print::part;
 use std::io;
 
 // The bytes of the DNA section.
@@ -37,7 +37,7 @@ fn run_read(rt: &impl Print, label: &[u8], start: &[u8]) -> io::Result<()> {
         label,
         64,
         &[0x1b; 16],
-        first_bytes(&block, length),
+        part(&block, 0, length),
         room_of(44, 2),
     )
 }

@@ -20,8 +20,8 @@
 //   15 raw                      C
 //   16 perfect, step 2, at 7    TTGCA
 use crate::block::{BLOCK_CAPACITY, block_buffer, put_bytes_at, varied_reads, write_block};
-use crate::parts::first_bytes;
 use crate::show::{Room, room_of, show};
+use case_text::print::part;
 use std::io;
 
 // The bytes of the DNA section: 44, 41 and 6 for the groups.
@@ -43,14 +43,14 @@ pub fn run_groups(rt: &impl Print) -> io::Result<()> {
 fn run_input(rt: &impl Print, label: &[u8], most: usize) -> io::Result<()> {
     let mut block = block_buffer();
     write_groups(&mut block);
-    show(rt, label, first_bytes(&block, most), room_of(80, 19))
+    show(rt, label, part(&block, 0, most), room_of(80, 19))
 }
 
 // The block with this room.
 fn run_room(rt: &impl Print, label: &[u8], room: Room) -> io::Result<()> {
     let mut block = block_buffer();
     let length = write_groups(&mut block);
-    show(rt, label, first_bytes(&block, length), room)
+    show(rt, label, part(&block, 0, length), room)
 }
 
 // Writes the block; the answer is its length.

@@ -6,9 +6,8 @@ ghost use Rattle.std.specs.Prelude.{◌≡◌, length};
 
 use crate::block::{block_buffer, equal_reads, put_bytes_at, varied_reads, write_block};
 use crate::groups::write_groups;
-use crate::lines::{end_line, put_number, put_text};
 use crate::outcomes::put_file_outcome;
-use crate::parts::first_bytes;
+use case_text::print::{end_line, part, put_number, put_text};
 use std::io;
 
 // More bytes than the file has.
@@ -60,7 +59,7 @@ fn run_references(rt: &impl Print) -> io::Result<()> {
         b"wrong reference",
         12,
         b"\x1b\x1b",
-        first_bytes(&file, FILE_LENGTH),
+        part(&file, 0, FILE_LENGTH),
     )
 }
 
@@ -79,7 +78,7 @@ fn run_alone(rt: &impl Print) -> io::Result<()> {
     run_example(rt, b"the same twice", 264)?;
     let mut file = file_buffer();
     put_empty(&mut file, 0);
-    run_file(rt, b"no reads", first_bytes(&file, 121))
+    run_file(rt, b"no reads", part(&file, 0, 121))
 }
 
 // ---- One case
@@ -90,7 +89,7 @@ fn run_cut(rt: &impl Print, end: usize) -> io::Result<()> {
     write_file(&mut file);
     put_text(rt, b"file of")?;
     put_number(rt, end as u64)?;
-    run_file(rt, b"", first_bytes(&file, end))
+    run_file(rt, b"", part(&file, 0, end))
 }
 
 // The file with a byte replaced.
@@ -98,7 +97,7 @@ fn run_byte(rt: &impl Print, label: &[u8], at: usize, byte: u8) -> io::Result<()
     let mut file = file_buffer();
     write_file(&mut file);
     put_bytes_at(&[byte], &mut file, at);
-    run_file(rt, label, first_bytes(&file, FILE_LENGTH))
+    run_file(rt, label, part(&file, 0, FILE_LENGTH))
 }
 
 // The file with the step and the third magic replaced: the first refusal counts.
@@ -107,7 +106,7 @@ fn run_both(rt: &impl Print, label: &[u8]) -> io::Result<()> {
     write_file(&mut file);
     put_bytes_at(&[3], &mut file, LAST_STEP_AT);
     put_bytes_at(&[0], &mut file, THIRD_AT);
-    run_file(rt, label, first_bytes(&file, FILE_LENGTH))
+    run_file(rt, label, part(&file, 0, FILE_LENGTH))
 }
 
 // The first so many bytes of two blocks of the listing.
@@ -115,7 +114,7 @@ fn run_example(rt: &impl Print, label: &[u8], end: usize) -> io::Result<()> {
     let mut file = file_buffer();
     put_example(&mut file, 0);
     put_example(&mut file, SECOND_AT);
-    run_file(rt, label, first_bytes(&file, end))
+    run_file(rt, label, part(&file, 0, end))
 }
 
 // The line of a file under the reference ACGTACGTTGCA.
@@ -157,18 +156,18 @@ fn put_example(file: &mut [u8], at: usize) {
     let mut block = block_buffer();
     let dna = b"\x00\x80\x00\x00\x0c\x00\x00\x00\x00\x0b";
     let length = write_block(equal_reads(1, 4, 4), dna, b"", b"\x00", &mut block);
-    put_bytes_at(first_bytes(&block, length), file, at);
+    put_bytes_at(part(&block, 0, length), file, at);
 }
 
 fn put_groups(file: &mut [u8], at: usize) {
     let mut block = block_buffer();
     let length = write_groups(&mut block);
-    put_bytes_at(first_bytes(&block, length), file, at);
+    put_bytes_at(part(&block, 0, length), file, at);
 }
 
 // The block without reads.
 fn put_empty(file: &mut [u8], at: usize) {
     let mut block = block_buffer();
     let length = write_block(varied_reads(0, 0), b"", b"", b"", &mut block);
-    put_bytes_at(first_bytes(&block, length), file, at);
+    put_bytes_at(part(&block, 0, length), file, at);
 }

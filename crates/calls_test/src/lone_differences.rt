@@ -2,9 +2,8 @@
 // base 0 on and differs in its last letter alone, with fillers of A at steps of 63 before it. At 64
 // that makes 2 entries, at 127 three, at 1953 = 31 * 63 thirty-one.
 use crate::block::{block_buffer, equal_reads, put_bytes_at, write_block};
-use crate::parts::first_bytes;
 use crate::read_lengths::run_block;
-use integers::size32;
+use case_text::print::part;
 use std::io;
 
 // The bytes of the DNA section with 31 entries.
@@ -36,5 +35,5 @@ fn run_read(rt: &impl Print, label: &[u8], size: u32, dna: &[u8]) -> io::Result<
     }
     let mut block = block_buffer();
     let length = write_block(equal_reads(1, size, size), dna, b"", b"\x00", &mut block);
-    run_block(rt, label, first_bytes(&block, length), size32(size - 4))
+    run_block(rt, label, part(&block, 0, length), (size - 4) as usize)
 }

@@ -1,17 +1,17 @@
 // The answers of the calls in words and numbers.
-use crate::lines::{put_number, put_word};
+use case_text::print::{put_number, put_word};
 use dna::Counts;
+use dna::refusals::Refusal;
 use format::{BlockOutcome, FileOutcome};
-use integers::wide64;
 use std::io;
 
 // An answer on a block: its length and counts, or the number and the read.
 pub fn put_block_outcome(rt: &impl Print, outcome: BlockOutcome) -> io::Result<()> {
     match outcome {
-        BlockOutcome::Accepted(length, counts) => put_accepted(rt, length, counts),
-        BlockOutcome::Refused(number, read) => {
-            put_refused(rt, number)?;
-            put_number(rt, read)
+        Ok(block) => put_accepted(rt, block.bytes, block.counts),
+        Err(refused) => {
+            put_refused(rt, refused.refusal)?;
+            put_number(rt, refused.read)
         }
     }
 }
@@ -19,11 +19,11 @@ pub fn put_block_outcome(rt: &impl Print, outcome: BlockOutcome) -> io::Result<(
 // An answer on a file: its blocks and sums, or the number, the block and the read.
 pub fn put_file_outcome(rt: &impl Print, outcome: FileOutcome) -> io::Result<()> {
     match outcome {
-        FileOutcome::Accepted(blocks, counts) => put_accepted(rt, blocks, counts),
-        FileOutcome::Refused(number, block, read) => {
-            put_refused(rt, number)?;
-            put_number(rt, block)?;
-            put_number(rt, read)
+        Ok(file) => put_accepted(rt, file.blocks, file.counts),
+        Err(refused) => {
+            put_refused(rt, refused.refusal)?;
+            put_number(rt, refused.block)?;
+            put_number(rt, refused.read)
         }
     }
 }
@@ -39,7 +39,7 @@ fn put_accepted(rt: &impl Print, size: u64, counts: Counts) -> io::Result<()> {
     put_number(rt, counts.top)
 }
 
-fn put_refused(rt: &impl Print, number: u32) -> io::Result<()> {
+fn put_refused(rt: &impl Print, refusal: Refusal) -> io::Result<()> {
     put_word(rt, b"refused")?;
-    put_number(rt, wide64(number))
+    put_number(rt, u64::from(refusal.number()))
 }

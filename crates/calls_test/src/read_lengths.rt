@@ -4,11 +4,11 @@
 ghost use Rattle.std.specs.Prelude.{◌≡◌, length};
 
 use crate::block::{block_buffer, put_bytes_at, varied_reads, write_block};
-use crate::lines::{end_line, put_numbers, put_text, put_word};
 use crate::outcomes::put_block_outcome;
-use crate::parts::{bytes_from, first_bytes};
-use crate::show::{NAME_ENDS_LENT, NAMES_LENT, UNTOUCHED_END, UNTOUCHED_LETTER};
-use integers::size32;
+use crate::show::{NAME_ENDS_LENT, NAMES_LENT};
+use case_text::print::{
+    UNTOUCHED_BYTE, UNTOUCHED_END, end_line, part, put_numbers, put_text, put_word,
+};
 use std::io;
 
 // The bytes of the reference, and its bases.
@@ -36,7 +36,7 @@ fn run_list(rt: &impl Print) -> io::Result<()> {
         b"\x00",
         &mut block,
     );
-    run_block(rt, b"lengths 5 5 300", first_bytes(&block, length), 306)
+    run_block(rt, b"lengths 5 5 300", part(&block, 0, length), 306)
 }
 
 // One read of 256, 32768 and 65535 letters, in words; and 256 in one byte, which is a length of 0.
@@ -68,7 +68,7 @@ fn run_read(rt: &impl Print, label: &[u8], size: u32, step: &[u8], sizes: &[u8])
     put_bytes_at(step, &mut dna, 4);
     let mut block = block_buffer();
     let length = write_block(varied_reads(1, size), &dna, sizes, b"\x00", &mut block);
-    run_block(rt, label, first_bytes(&block, length), size32(size - 4))
+    run_block(rt, label, part(&block, 0, length), (size - 4) as usize)
 }
 
 // The line of a block, with eight letters from a place on.
@@ -89,7 +89,7 @@ fn decode_into(
     at: usize,
 ) -> io::Result<()> {
     let mut ends = [UNTOUCHED_END; ENDS_LENT];
-    let mut names = [UNTOUCHED_LETTER; NAMES_LENT];
+    let mut names = [UNTOUCHED_BYTE; NAMES_LENT];
     let mut name_ends = [UNTOUCHED_END; NAME_ENDS_LENT];
     put_text(rt, label)?;
     put_text(rt, b": decode")?;
@@ -108,7 +108,7 @@ fn decode_into(
     put_text(rt, b", validate_block")?;
     put_block_outcome(rt, ora::validate_block(REFERENCE_BASES, reference, input))?;
     put_text(rt, b",")?;
-    put_word(rt, first_bytes(bytes_from(letters, at), 8))?;
+    put_word(rt, part(letters, at, 8))?;
     put_numbers(rt, &ends)?;
     end_line(rt)
 }
@@ -116,7 +116,7 @@ fn decode_into(
 fn untouched_letters() -> [u8; LETTERS_LENT]
     ensures { 65_540 ≡ length result }
 {
-    [UNTOUCHED_LETTER; LETTERS_LENT]
+    [UNTOUCHED_BYTE; LETTERS_LENT]
 }
 
 // Only A.

@@ -3,9 +3,8 @@
 // first at 124. m2 is empty, so its span is 0 0; so are those of the numbers past 8 and of a header
 // that is refused, and then b_id and length are 0.
 use crate::block::{BLOCK_CAPACITY, block_buffer, put_bytes_at};
-use crate::lines::{end_line, put_bytes, put_number, put_text};
-use crate::parts::first_bytes;
 use crate::show::{room_of, show};
+use case_text::print::{end_line, part, put_bytes, put_number, put_text};
 use std::io;
 
 // The bytes of the block: 124, then 10 3 2 4 4 1 5 0 1.
@@ -27,13 +26,8 @@ pub fn run_sections(rt: &impl Print) -> io::Result<()> {
 fn show_full(rt: &impl Print) -> io::Result<()> {
     let mut block = block_buffer();
     write_full(&mut block);
-    show(
-        rt,
-        b"sections",
-        first_bytes(&block, FULL_LENGTH),
-        room_of(8, 3),
-    )?;
-    run_section(rt, first_bytes(&block, FULL_LENGTH), 0xffff_ffff_ffff_ffff)
+    show(rt, b"sections", part(&block, 0, FULL_LENGTH), room_of(8, 3))?;
+    run_section(rt, part(&block, 0, FULL_LENGTH), 0xffff_ffff_ffff_ffff)
 }
 
 // The first so many bytes of the block and the zeros after it, with this first byte.
@@ -41,16 +35,14 @@ fn run_input(rt: &impl Print, label: &[u8], most: usize, first: u8) -> io::Resul
     let mut block = block_buffer();
     write_full(&mut block);
     put_bytes_at(&[first], &mut block, 0);
-    run_block(rt, label, first_bytes(&block, most))
+    run_block(rt, label, part(&block, 0, most))
 }
 
 // What is told of a block without its sections, then those.
 fn run_block(rt: &impl Print, label: &[u8], input: &[u8]) -> io::Result<()> {
     put_block(rt, label, input)?;
-    let mut number: u64 = 0;
-    while number < ASKED_SECTIONS {
+    for number in 0..ASKED_SECTIONS {
         run_section(rt, input, number)?;
-        number += 1;
     }
     Ok(())
 }

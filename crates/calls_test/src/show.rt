@@ -1,8 +1,10 @@
 // One case: a block is decoded and judged, and both answers and the lent buffers are printed.
 ghost use Rattle.std.specs.Prelude.{◌≡◌, length};
 
-use crate::lines::{end_line, put_numbers, put_text, put_word};
 use crate::outcomes::put_block_outcome;
+use case_text::print::{
+    UNTOUCHED_BYTE, UNTOUCHED_END, bytes_untouched, end_line, put_buffers, put_text,
+};
 use std::io;
 
 // The most letters and ends that a case lends.
@@ -14,11 +16,6 @@ const MAX_ENDS: usize = 24;
 pub const NAMES_LENT: usize = 4;
 
 pub const NAME_ENDS_LENT: usize = 2;
-
-// What every lent letter and every lent end holds before the call.
-pub const UNTOUCHED_LETTER: u8 = b'.';
-
-pub const UNTOUCHED_END: u32 = 99;
 
 // How many letters and ends are lent.
 #[derive(Clone, Copy)]
@@ -72,7 +69,7 @@ pub fn show_under(
 fn untouched_letters() -> [u8; MAX_LETTERS]
     ensures { 96 ≡ length result }
 {
-    [UNTOUCHED_LETTER; MAX_LETTERS]
+    [UNTOUCHED_BYTE; MAX_LETTERS]
 }
 
 fn untouched_ends() -> [u32; MAX_ENDS]
@@ -90,7 +87,7 @@ fn show_lent(
     letters: &mut [u8],
     ends: &mut [u32],
 ) -> io::Result<()> {
-    let mut names = [UNTOUCHED_LETTER; NAMES_LENT];
+    let mut names = [UNTOUCHED_BYTE; NAMES_LENT];
     let mut name_ends = [UNTOUCHED_END; NAME_ENDS_LENT];
     put_text(rt, label)?;
     put_text(rt, b": decode")?;
@@ -108,47 +105,15 @@ fn show_lent(
     )?;
     put_text(rt, b", validate_block")?;
     put_block_outcome(rt, ora::validate_block(bases, reference, input))?;
-    put_text(rt, b",")?;
-    put_buffers(rt, letters, ends)?;
+    put_buffers(rt, letters, ends, 0, letters.len())?;
     put_names(rt, &names, &name_ends)?;
     end_line(rt)
 }
 
-// Both buffers, or that they hold what they held before.
-fn put_buffers(rt: &impl Print, letters: &[u8], ends: &[u32]) -> io::Result<()> {
-    if letters_untouched(letters) && ends_untouched(ends) {
-        return put_word(rt, b"untouched");
-    }
-    put_word(rt, letters)?;
-    put_numbers(rt, ends)
-}
-
 // Names are stored in no block, so these stay: nothing is printed then.
 fn put_names(rt: &impl Print, names: &[u8], name_ends: &[u32]) -> io::Result<()> {
-    if letters_untouched(names) && ends_untouched(name_ends) {
+    if bytes_untouched(names) && name_ends.iter().all(|end| *end == UNTOUCHED_END) {
         return Ok(());
     }
     put_text(rt, b", names touched")
-}
-
-fn letters_untouched(letters: &[u8]) -> bool {
-    let mut i: usize = 0;
-    while i < letters.len() {
-        if letters[i] != UNTOUCHED_LETTER {
-            return false;
-        }
-        i += 1;
-    }
-    true
-}
-
-fn ends_untouched(ends: &[u32]) -> bool {
-    let mut i: usize = 0;
-    while i < ends.len() {
-        if ends[i] != UNTOUCHED_END {
-            return false;
-        }
-        i += 1;
-    }
-    true
 }

@@ -3,8 +3,8 @@
 // a block is 122 bytes longer than its DNA section. Four more letters and one more end are lent
 // than the longest row wants.
 use crate::block::{block_buffer, equal_reads, write_block};
-use crate::parts::first_bytes;
 use crate::show::{room_of, show};
+use case_text::print::part;
 use std::io;
 
 pub fn run_sums(rt: &impl Print) -> io::Result<()> {
@@ -102,5 +102,5 @@ fn run_others(rt: &impl Print) -> io::Result<()> {
 fn run_row(rt: &impl Print, label: &[u8], size: u32, dna: &[u8], ns: &[u8]) -> io::Result<()> {
     let mut block = block_buffer();
     let length = write_block(equal_reads(1, size, size), dna, b"", ns, &mut block);
-    show(rt, label, first_bytes(&block, length), room_of(9, 2))
+    show(rt, label, part(&block, 0, length), room_of(9, 2))
 }

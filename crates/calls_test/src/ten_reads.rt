@@ -2,7 +2,7 @@
 // at position 1, the first as a step from 0 and the others as steps of 0. The bytes of the second
 // group, of two reads, are given.
 use crate::block::{equal_reads, put_bytes_at, write_block};
-use crate::parts::first_bytes;
+use case_text::print::part;
 
 // The bytes of the first group, and the most of the second.
 const FIRST_LENGTH: usize = 20;
@@ -25,7 +25,7 @@ pub fn write_ten(size: u32, second: &[u8], ns: &[u8], out: &mut [u8]) -> usize {
     put_bytes_at(second, &mut dna, FIRST_LENGTH);
     write_block(
         equal_reads(10, size, size * 10),
-        first_bytes(&dna, FIRST_LENGTH + second.len()),
+        part(&dna, 0, FIRST_LENGTH + second.len()),
         b"",
         ns,
         out,

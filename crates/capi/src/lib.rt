@@ -4,6 +4,7 @@
 #![tactic(auto)]
 
 ghost use Rattle.std.specs.Prelude.{◌≡◌, ◌∷◌, replicate};
+ghost use Rattle.dna.specs.Refused.{refusal_number};
 ghost use Rattle.format.specs.Outcome.{refusal};
 ghost use Rattle.format.specs.Answered.{
   counted_of,
@@ -25,8 +26,8 @@ ghost use Rattle.format.specs.EncodeAnswer.{lent, encoded, encoded_buffer};
 ghost use Rattle.capi.specs.Slots.{slots, accepted_slots, section_slots};
 
 use dna::Counts;
+use dna::refusals::Refusal;
 use format::{BlockOutcome, EncodeOutcome, FileOutcome};
-use integers::wide64;
 
 // Decodes the block at the input's start.
 #[unsafe(no_mangle)]
@@ -55,7 +56,7 @@ pub extern "C" fn ora_decode(
 {
     let outcome = ora::decode(bases, reference, input, letters, ends, names, name_ends);
     *answer = block_slots(outcome);
-    block_number(outcome)
+    answer[0]
 }
 
 // Judges the block at the input's start.
@@ -73,7 +74,7 @@ pub extern "C" fn ora_validate_block(
 {
     let outcome = ora::validate_block(bases, reference, input);
     *answer = block_slots(outcome);
-    block_number(outcome)
+    answer[0]
 }
 
 // Judges a file.
@@ -90,7 +91,7 @@ pub extern "C" fn ora_validate(
 {
     let outcome = ora::validate(bases, reference, file);
     *answer = file_slots(outcome);
-    file_number(outcome)
+    answer[0]
 }
 
 // Writes a block.
@@ -134,7 +135,7 @@ pub extern "C" fn ora_encode(
         c_time, out,
     );
     *answer = encode_slots(outcome);
-    encode_number(outcome)
+    answer[0]
 }
 
 // Where a section of the block at the input's start stands; 0, since nothing is refused.
@@ -170,17 +171,8 @@ fn block_slots(outcome: BlockOutcome) -> [u64; 16]
     ensures { result ≡ slots (outcome_of_block outcome) }
 {
     match outcome {
-        BlockOutcome::Accepted(bytes, counts) => accepted_slots(bytes, counts),
-        BlockOutcome::Refused(number, read) => refused_slots(number, 0, read),
-    }
-}
-
-fn block_number(outcome: BlockOutcome) -> u64
-    ensures { result ≡ (outcome_of_block outcome).number }
-{
-    match outcome {
-        BlockOutcome::Accepted(_, _) => 0,
-        BlockOutcome::Refused(number, _) => wide64(number),
+        Ok(block) => accepted_slots(block.bytes, block.counts),
+        Err(refused) => refused_slots(refused.refusal, 0, refused.read),
     }
 }
 
@@ -188,17 +180,8 @@ fn file_slots(outcome: FileOutcome) -> [u64; 16]
     ensures { result ≡ slots (outcome_of_file outcome) }
 {
     match outcome {
-        FileOutcome::Accepted(blocks, counts) => accepted_slots(blocks, counts),
-        FileOutcome::Refused(number, block, read) => refused_slots(number, block, read),
-    }
-}
-
-fn file_number(outcome: FileOutcome) -> u64
-    ensures { result ≡ (outcome_of_file outcome).number }
-{
-    match outcome {
-        FileOutcome::Accepted(_, _) => 0,
-        FileOutcome::Refused(number, _, _) => wide64(number),
+        Ok(file) => accepted_slots(file.blocks, file.counts),
+        Err(refused) => refused_slots(refused.refusal, refused.block, refused.read),
     }
 }
 
@@ -206,17 +189,8 @@ fn encode_slots(outcome: EncodeOutcome) -> [u64; 16]
     ensures { result ≡ slots (outcome_of_encode outcome) }
 {
     match outcome {
-        EncodeOutcome::Written(bytes) => first_slots(0, 0, 0, bytes, 0, 0, 0, 0, 0),
-        EncodeOutcome::Refused(number) => refused_slots(number, 0, 0),
-    }
-}
-
-fn encode_number(outcome: EncodeOutcome) -> u64
-    ensures { result ≡ (outcome_of_encode outcome).number }
-{
-    match outcome {
-        EncodeOutcome::Written(_) => 0,
-        EncodeOutcome::Refused(number) => wide64(number),
+        Ok(bytes) => first_slots(0, 0, 0, bytes, 0, 0, 0, 0, 0),
+        Err(refusal) => refused_slots(refusal, 0, 0),
     }
 }
 
@@ -238,10 +212,10 @@ fn accepted_slots(size: u64, counts: Counts) -> [u64; 16]
 }
 
 // The slots of a refusal: all but its number and its indices are 0.
-fn refused_slots(number: u32, block: u64, read: u64) -> [u64; 16]
-    ensures { result ≡ slots (refusal number block read) }
+fn refused_slots(refused: Refusal, block: u64, read: u64) -> [u64; 16]
+    ensures { result ≡ slots (refusal (refusal_number refused) block read) }
 {
-    first_slots(wide64(number), block, read, 0, 0, 0, 0, 0, 0)
+    first_slots(u64::from(refused.number()), block, read, 0, 0, 0, 0, 0, 0)
 }
 
 // The slots that are ever used; the others are 0.

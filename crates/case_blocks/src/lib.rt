@@ -8,30 +8,16 @@
 #![tactic(auto)]
 
 ghost use Rattle.std.specs.Prelude.{◌≡◌, ◌+◌, ◌<◌, ◌≤◌, length};
-ghost use Rattle.case_blocks.specs.Built.{BuiltIn};
+ghost use Rattle.case_blocks.specs.Built.{BuiltIn, KindFits};
 
-use case_text::lines::{LINE_FEED, begins_with, rest};
-use case_text::values::{number, place_of, put_bytes, put_numbers, smaller};
-use integers::{put_u32, size64, u32_at};
-use std::num::wrapping_add_u32;
+use case_text::lines::{LINE_FEED, rest};
+use case_text::values::{number, put_bytes, put_numbers};
+use integers::{put_u32, u32_at};
 
 // More bytes than an input has.
 pub const INPUT_CAPACITY: usize = 1_024;
 
 const HEADER_LENGTH: usize = 121;
-
-// What a line does that does not go on with a section: those have the section's number, below 9.
-const SECTIONS: usize = 9;
-
-const BLOCK: usize = 10;
-
-const BYTES: usize = 11;
-
-const PUT: usize = 12;
-
-const CUT: usize = 13;
-
-const NOTHING: usize = 14;
 
 // Offsets of header fields.
 const LENGTHS_AT: usize = 6;
@@ -43,6 +29,18 @@ const L_READ_AT: usize = 46;
 const N_READS_AT: usize = 50;
 
 const L_DNA_RAW_AT: usize = 73;
+
+// What a line does.
+#[derive(Clone, Copy)]
+enum Kind {
+    // Goes on with the section of this number.
+    Section(usize),
+    Block,
+    Bytes,
+    Put,
+    Cut,
+    Nothing,
+}
 
 // What is built: where its last block begins, and where it ends.
 #[derive(Clone, Copy)]
@@ -66,11 +64,8 @@ fn build_lines(lines: &[u8], begun: Built, out: &mut [u8]) -> Built
     ensures { BuiltIn result (length out.old) }
 {
     let mut built = begun;
-    let mut i: usize = 0;
-    while i < lines.len() {
-        let end = place_of(LINE_FEED, lines, i);
-        built = build_line(&lines[i..end], built, out);
-        i = end + 1;
+    for line in lines.split(|byte| *byte == LINE_FEED) {
+        built = build_line(line, built, out);
     }
     built
 }
@@ -80,51 +75,64 @@ fn build_line(line: &[u8], built: Built, out: &mut [u8]) -> Built
     requires { BuiltIn built (length out.old) }
     ensures { BuiltIn result (length out.old) }
 {
-    let kind = kind_of(line);
     let values = rest(rest(line));
-    if kind < SECTIONS {
-        return put_section(kind, values, built, out);
-    }
-    if kind == BLOCK {
-        return put_block(values, built, out);
-    }
-    let end = changed_end(kind, values, built.end, out);
-    Built {
-        start: built.start,
-        end: end,
+    match kind_of(line) {
+        Kind::Section(number) => put_section(number, values, built, out),
+        Kind::Block => put_block(values, built, out),
+        Kind::Bytes => ended(built, put_bytes(values, out, built.end)),
+        Kind::Put => {
+            put_over(values, out);
+            built
+        }
+        Kind::Cut => ended(built, cut(values, out)),
+        Kind::Nothing => built,
     }
 }
 
-fn kind_of(line: &[u8]) -> usize {
-    if begins_with(line, b" dna ") {
-        return 0;
+fn kind_of(line: &[u8]) -> Kind
+    ensures { KindFits result }
+{
+    if line.starts_with(b" dna ") {
+        return Kind::Section(0);
     }
-    if begins_with(line, b" names ") {
-        return 1;
+    if line.starts_with(b" names ") {
+        return Kind::Section(1);
     }
-    if begins_with(line, b" sizes ") {
-        return 4;
+    if line.starts_with(b" sizes ") {
+        return Kind::Section(4);
     }
-    if begins_with(line, b" n ") {
-        return 5;
+    if line.starts_with(b" n ") {
+        return Kind::Section(5);
     }
-    if begins_with(line, b" block ") {
-        return BLOCK;
+    if line.starts_with(b" block ") {
+        return Kind::Block;
     }
     other_kind(line)
 }
 
-fn other_kind(line: &[u8]) -> usize {
-    if begins_with(line, b" bytes ") {
-        return BYTES;
+fn other_kind(line: &[u8]) -> Kind
+    ensures { KindFits result }
+{
+    if line.starts_with(b" bytes ") {
+        return Kind::Bytes;
     }
-    if begins_with(line, b" put ") {
-        return PUT;
+    if line.starts_with(b" put ") {
+        return Kind::Put;
     }
-    if begins_with(line, b" cut ") {
-        return CUT;
+    if line.starts_with(b" cut ") {
+        return Kind::Cut;
     }
-    NOTHING
+    Kind::Nothing
+}
+
+// The same block, with another end of the input.
+fn ended(built: Built, end: usize) -> Built
+    ensures { (result.start ≡ built.start) × (result.end ≡ end) }
+{
+    Built {
+        start: built.start,
+        end: end,
+    }
 }
 
 // ---- Parts of an input
@@ -167,33 +175,20 @@ fn put_section(number: usize, values: &[u8], built: Built, out: &mut [u8]) -> Bu
     let from = built.end;
     let end = put_bytes(values, out, from);
     let at = built.start + LENGTHS_AT + 4 * number;
-    let size = wrapping_add_u32(u32_at(out, at), ((end - from) % 65536) as u32);
+    let size = u32_at(out, at).wrapping_add(((end - from) % 65536) as u32);
     put_u32(out, at, size);
-    Built {
-        start: built.start,
-        end: end,
-    }
+    ended(built, end)
 }
 
-// Where the input ends after a line of another kind.
-fn changed_end(kind: usize, values: &[u8], end: usize, out: &mut [u8]) -> usize
-    requires { end ≤ length out.old }
-    ensures { result ≤ length out.old }
+// Where the input ends after it is cut.
+fn cut(values: &[u8], out: &[u8]) -> usize
+    ensures { result ≤ length out.now }
 {
-    if kind == BYTES {
-        return put_bytes(values, out, end);
-    }
-    if kind == CUT {
-        return smaller(size64(number(values)), out.len());
-    }
-    if kind == PUT {
-        put_over(values, out);
-    }
-    end
+    out.len().min(number(values) as usize)
 }
 
 // Writes over what stands at an index.
 fn put_over(values: &[u8], out: &mut [u8]) {
-    let at = smaller(size64(number(values)), out.len());
+    let at = out.len().min(number(values) as usize);
     put_bytes(rest(values), out, at);
 }

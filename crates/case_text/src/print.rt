@@ -1,6 +1,5 @@
 // What is printed: text, and words, numbers and bytes with a space before each; and buffers, which
 // are filled with a mark before a call, so that what it left is seen.
-use integers::wide64;
 use std::io;
 
 // What every lent byte and every lent end holds before a call.
@@ -22,24 +21,16 @@ pub fn put_number(rt: &impl Print, number: u64) -> io::Result<()> {
 }
 
 pub fn put_numbers(rt: &impl Print, numbers: &[u32]) -> io::Result<()> {
-    let mut i: usize = 0;
-    while i < numbers.len() {
-        put_number(rt, wide64(numbers[i]))?;
-        i += 1;
+    for number in numbers {
+        put_number(rt, u64::from(*number))?;
     }
     Ok(())
 }
 
-// A byte as two hexadecimal digits.
-fn put_byte(rt: &impl Print, byte: u8) -> io::Result<()> {
-    print!(rt; " {byte:02x}")
-}
-
+// A byte is two hexadecimal digits.
 pub fn put_bytes(rt: &impl Print, bytes: &[u8]) -> io::Result<()> {
-    let mut i: usize = 0;
-    while i < bytes.len() {
-        put_byte(rt, bytes[i])?;
-        i += 1;
+    for byte in bytes {
+        print!(rt; " {byte:02x}")?;
     }
     Ok(())
 }
@@ -67,34 +58,15 @@ pub fn put_buffers(
 }
 
 pub fn bytes_untouched(bytes: &[u8]) -> bool {
-    let mut i: usize = 0;
-    while i < bytes.len() {
-        if bytes[i] != UNTOUCHED_BYTE {
-            return false;
-        }
-        i += 1;
-    }
-    true
+    bytes.iter().all(|byte| *byte == UNTOUCHED_BYTE)
 }
 
 fn ends_untouched(ends: &[u32]) -> bool {
-    let mut i: usize = 0;
-    while i < ends.len() {
-        if ends[i] != UNTOUCHED_END {
-            return false;
-        }
-        i += 1;
-    }
-    true
+    ends.iter().all(|end| *end == UNTOUCHED_END)
 }
 
 // The part of some bytes from `from` on, of at most so many.
 pub fn part(bytes: &[u8], from: usize, most: usize) -> &[u8] {
-    if bytes.len() < from {
-        return &bytes[0..0];
-    }
-    if bytes.len() - from < most {
-        return &bytes[from..];
-    }
-    &bytes[from..from + most]
+    let rest = &bytes[from.min(bytes.len())..];
+    &rest[..most.min(rest.len())]
 }

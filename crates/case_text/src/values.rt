@@ -1,9 +1,6 @@
 // The values of a line: bytes and numbers, one space apart.
-ghost use Rattle.std.specs.Prelude.{◌≡◌, ◌≤◌, min, length};
+ghost use Rattle.std.specs.Prelude.{◌≡◌, ◌≤◌, ◌<◌, MatchOption, length};
 ghost use Rattle.case_text.specs.Digits.{hex_digit};
-
-use integers::{size64, wide16, wide32, wide64};
-use std::num::wrapping_add_u64;
 
 pub const SPACE: u8 = 32;
 
@@ -20,26 +17,21 @@ pub fn put_bytes(text: &[u8], out: &mut [u8], at: usize) -> usize
     ensures { (at ≤ result) × (result ≤ length out.old) }
 {
     let mut place = at;
-    let mut i: usize = 0;
-    while i < text.len() {
-        let end = place_of(SPACE, text, i);
-        place = put_byte(&text[i..end], out, place);
-        i = end + 1;
+    for value in text.split(|byte| *byte == SPACE) {
+        place = put_byte(value, out, place);
     }
     place
 }
 
-// The same with numbers.
+// The same with numbers. A loop of its own: one for both would be passed what writes one value, and
+// its contract with it, which is longer.
 pub fn put_numbers(text: &[u8], out: &mut [u32], at: usize) -> usize
     requires { at ≤ length out.old }
     ensures { (at ≤ result) × (result ≤ length out.old) }
 {
     let mut place = at;
-    let mut i: usize = 0;
-    while i < text.len() {
-        let end = place_of(SPACE, text, i);
-        place = put_number(&text[i..end], out, place);
-        i = end + 1;
+    for value in text.split(|byte| *byte == SPACE) {
+        place = put_number(value, out, place);
     }
     place
 }
@@ -65,67 +57,50 @@ fn put_number(value: &[u8], out: &mut [u32], at: usize) -> usize
     requires { at ≤ length out.old }
     ensures { (at ≤ result) × (result ≤ length out.old) }
 {
-    if value.len() == 0 {
-        return at;
+    match value.first() {
+        Some(byte) if byte.is_ascii_digit() => {
+            fill((number(value) % 4294967296) as u32, times(value), out, at)
+        }
+        _ => at,
     }
-    if 9 < digit(value[0]) {
-        return at;
-    }
-    fill_numbers((number(value) % 4294967296) as u32, times(value), out, at)
 }
 
 // How often a value is repeated: the number after its *, or once.
 fn times(value: &[u8]) -> usize {
-    let place = place_of(TIMES, value, 0);
-    if place == value.len() {
-        return 1;
+    match value.iter().position(|byte| *byte == TIMES) {
+        Some(place) => number(&value[place + 1..]) as usize,
+        None => 1,
     }
-    size64(number(&value[place + 1..]))
 }
 
 // The number of the decimal digits with which a text begins, modulo 2 ^ 64.
 pub fn number(text: &[u8]) -> u64 {
     let mut sum: u64 = 0;
-    let mut i: usize = 0;
-    while i < text.len() {
-        let next = digit(text[i]);
-        if 9 < next {
+    for byte in text {
+        if !byte.is_ascii_digit() {
             return sum;
         }
-        sum = wrapping_add_u64(ten_times(sum), wide64(wide32(wide16(next))));
-        i += 1;
+        sum = sum.wrapping_mul(10).wrapping_add(u64::from(*byte - b'0'));
     }
     sum
 }
 
-fn ten_times(x: u64) -> u64 {
-    let two = wrapping_add_u64(x, x);
-    let four = wrapping_add_u64(two, two);
-    wrapping_add_u64(wrapping_add_u64(four, four), two)
-}
-
-// The byte of two hexadecimal digits.
+// The byte of two hexadecimal digits; one that is none counts 0.
 fn hexadecimal(high: u8, low: u8) -> u8 {
-    digit(high) % 16 * 16 + digit(low) % 16
+    digit(high).unwrap_or(0) * 16 + digit(low).unwrap_or(0)
 }
 
-// The value of a hexadecimal digit; 16 of a byte that is none.
-fn digit(byte: u8) -> u8
-    ensures { result ≡ hex_digit byte }
+// The value of a hexadecimal digit, of 0 to 9 and a to f.
+#[tactic(auto, unfolding(crate::specs::Digits::hex_digit))]
+fn digit(byte: u8) -> Option<u8>
+    ensures { MatchOption result (hex_digit byte ≡ 16)
+        (λ value. (value ≡ hex_digit byte) × (value < 16)) }
 {
-    if byte < b'0' {
-        return 16;
+    match byte {
+        b'0'..=b'9' => Some(byte - b'0'),
+        b'a'..=b'f' => Some(byte - b'a' + 10),
+        _ => None,
     }
-    if byte <= b'9' {
-        return byte - b'0';
-    }
-    if byte < b'a' {
-        return 16;
-    }
-    if byte <= b'f' {
-        return byte - b'a' + 10;
-    }
-    16
 }
 
 // The index of the first `byte` of a text from `at` on, or the text's end.
@@ -133,14 +108,10 @@ pub fn place_of(byte: u8, text: &[u8], at: usize) -> usize
     requires { at ≤ length text.now }
     ensures { (at ≤ result) × (result ≤ length text.now) }
 {
-    let mut i = at;
-    while i < text.len() {
-        if text[i] == byte {
-            return i;
-        }
-        i += 1;
+    match text[at..].iter().position(|other| *other == byte) {
+        Some(place) => at + place,
+        None => text.len(),
     }
-    i
 }
 
 // ---- Writing as much as there is room for
@@ -149,46 +120,17 @@ fn copy(text: &[u8], out: &mut [u8], at: usize) -> usize
     requires { at ≤ length out.old }
     ensures { (at ≤ result) × (result ≤ length out.old) }
 {
-    let count = smaller(text.len(), out.len() - at);
-    let mut i: usize = 0;
-    while i < count {
-        out[at + i] = text[i];
-        i += 1;
-    }
+    let count = text.len().min(out.len() - at);
+    out[at..at + count].copy_from_slice(&text[..count]);
     at + count
 }
 
-fn fill(byte: u8, count: usize, out: &mut [u8], at: usize) -> usize
-    requires { at ≤ length out.old }
+fn fill<T: Copy>(value: T, count: usize, out: &mut [T], at: usize) -> usize
+    requires room { at ≤ length out.old }
+    requires infallible { T.is_infallible value }
     ensures { (at ≤ result) × (result ≤ length out.old) }
 {
-    let end = at + smaller(count, out.len() - at);
-    let mut i = at;
-    while i < end {
-        out[i] = byte;
-        i += 1;
-    }
+    let end = at + count.min(out.len() - at);
+    out[at..end].fill(value);
     end
-}
-
-fn fill_numbers(number: u32, count: usize, out: &mut [u32], at: usize) -> usize
-    requires { at ≤ length out.old }
-    ensures { (at ≤ result) × (result ≤ length out.old) }
-{
-    let end = at + smaller(count, out.len() - at);
-    let mut i = at;
-    while i < end {
-        out[i] = number;
-        i += 1;
-    }
-    end
-}
-
-pub fn smaller(a: usize, b: usize) -> usize
-    ensures { result ≡ min a b }
-{
-    if a < b {
-        return a;
-    }
-    b
 }

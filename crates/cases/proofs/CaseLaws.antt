@@ -12,44 +12,43 @@ use Rattle.base.specs.Numbers.{le}
 use Rattle.cases.specs.CaseFile.{file_header_length, file_magic, count_answer, case_header_length}
 use Rattle.cases.specs.CaseFile.{case_fields, case_size, case_answer}
 use Rattle.cases.specs.declared.case_file.CaseHeader.{CaseHeader}
-use Rattle.cases.specs.declared.case_file.CaseRead.TheVariants as case
-use Rattle.cases.specs.declared.case_file.CountRead.TheVariants as count
+use Rattle.std.specs.Prelude.{Some, None}
 
 module _ (bytes : List ℕ) (header : CaseHeader) where
   -- What is left to judge, once the header is there.
   header_there : header ≡ case_fields bytes → case_header_length ≤ length bytes
       → case_answer bytes
       ≡ cond (eqb (case_size header) header.length)
-      (cond (ltb (length bytes) (case_size header)) case.Bad (case.Found header))
-      case.Bad
+      (cond (ltb (length bytes) (case_size header)) None (Some header))
+      None
   unfolding case_answer
   header_there fields there = rw fields (simp (le-ltb _ _ there))
 
   pub other_length : header ≡ case_fields bytes → case_header_length ≤ length bytes
-      → (case_size header ≡ header.length → ⊥) → case.Bad ≡ case_answer bytes
+      → (case_size header ≡ header.length → ⊥) → None ≡ case_answer bytes
   other_length fields there other =
       sym (header_there fields there ∙ simp (ne_eqb _ _ other))
 
   module _ (size : ℕ) (fields : header ≡ case_fields bytes) (there : case_header_length ≤ length bytes)
       (sized : size ≡ case_size header) (stated : size ≡ header.length) where
-    pub parts_missing : length bytes < size → case.Bad ≡ case_answer bytes
+    pub parts_missing : length bytes < size → None ≡ case_answer bytes
     parts_missing short =
         sym (header_there fields there
         ∙ simp (eq-eqb _ _ (sym sized ∙ stated), lt-ltb _ _ (rw sized at short)))
 
-    pub case_found : size ≤ length bytes → case.Found header ≡ case_answer bytes
+    pub case_found : size ≤ length bytes → Some header ≡ case_answer bytes
     case_found enough =
         sym (header_there fields there
         ∙ simp (eq-eqb _ _ (sym sized ∙ stated), le-ltb _ _ (rw sized at enough)))
 
 -- A case is none that is bad.
-not_bad : (header : CaseHeader) → case.Bad ≡ case.Found header → ⊥
+not_bad : (header : CaseHeader) → None ≡ Some header → ⊥
 not_bad header e = let z : ◌≡◌ {A = ℕ} 0 1 = cc in omega arith
 
 -- Which tests led to a case.
 tests-passed : (short same missing : Bool) (fields header : CaseHeader)
-    → cond short case.Bad (cond same (cond missing case.Bad (case.Found fields)) case.Bad)
-    ≡ case.Found header
+    → cond short None (cond same (cond missing None (Some fields)) None)
+    ≡ Some header
     → (fields ≡ header) × (same ≡ true) × (missing ≡ false)
 tests-passed true same missing fields header e = absurd (not_bad header e)
 tests-passed false false missing fields header e = absurd (not_bad header e)
@@ -57,7 +56,7 @@ tests-passed false true true fields header e = absurd (not_bad header e)
 tests-passed false true false fields header e = (cc, refl, refl)
 
 -- A case that is found lies in the bytes.
-pub found-length : (bytes : List ℕ) (header : CaseHeader) → case_answer bytes ≡ case.Found header
+pub found-length : (bytes : List ℕ) (header : CaseHeader) → case_answer bytes ≡ Some header
     → header.length ≤ length bytes
 unfolding case_answer
 found-length bytes header e =
@@ -71,13 +70,13 @@ found-length bytes header e =
 
 -- Which test led to a number of cases.
 test-passed : (short magic : Bool) (stated number : ℕ)
-    → cond short count.Bad (cond magic (count.Found stated) count.Bad) ≡ count.Found number
+    → cond short None (cond magic (Some stated) None) ≡ Some number
     → short ≡ false
 test-passed true magic stated number e = let z : ◌≡◌ {A = ℕ} 0 1 = cc in absurd (omega arith)
 test-passed false magic stated number e = refl
 
 -- A file that states its number of cases has the header of a case file.
-pub counted-length : (file : List ℕ) (number : ℕ) → count_answer file ≡ count.Found number
+pub counted-length : (file : List ℕ) (number : ℕ) → count_answer file ≡ Some number
     → file_header_length ≤ length file
 unfolding count_answer
 counted-length file number e =

@@ -1,3 +1,2 @@
 pub mod HashLaws
-pub mod PrimeLaws
 pub mod CaseLaws

@@ -1,12 +1,8 @@
 -- A case file and a case of it (rust/second/CORPUS.md, A case file): the fields of its header,
 -- where its parts stand, and what reading it answers.
-use Rattle.std.specs.Prelude.{ℕ, ◌+◌, ◌*◌, cond, List, length, get_or, ltb, eqb}
+use Rattle.std.specs.Prelude.{ℕ, ◌+◌, ◌*◌, cond, List, length, get_or, ltb, eqb, Option, Some, None}
 use Rattle.base.specs.Numbers.{le}
 use Rattle.cases.specs.declared.case_file.CaseHeader.{CaseHeader}
-use Rattle.cases.specs.declared.case_file.CountRead.{CountRead}
-use Rattle.cases.specs.declared.case_file.CountRead.TheVariants as count
-use Rattle.cases.specs.declared.case_file.CaseRead.{CaseRead}
-use Rattle.cases.specs.declared.case_file.CaseRead.TheVariants as case
 
 abbrev pub file_header_length : ℕ
 file_header_length = 16
@@ -21,10 +17,10 @@ file_magic = 3622393015055766095
 -- ---- The file
 
 -- The number of cases that a file says, if it begins as a case file does.
-unfoldable pub count_answer : (file : List ℕ) → CountRead
+unfoldable pub count_answer : (file : List ℕ) → Option ℕ
 count_answer file =
-    cond (ltb (length file) file_header_length) count.Bad
-    (cond (eqb (le 8 file 0) file_magic) (count.Found (le 4 file 8)) count.Bad)
+    cond (ltb (length file) file_header_length) None
+    (cond (eqb (le 8 file 0) file_magic) (Some (le 4 file 8)) None)
 
 -- ---- A case
 
@@ -96,10 +92,10 @@ abbrev pub case_size : (header : CaseHeader) → ℕ
 case_size header = rights_start header + header.rights
 
 -- The case with which the bytes begin, if all of it is there and has the length that it says.
-unfoldable pub case_answer : (bytes : List ℕ) → CaseRead
+unfoldable pub case_answer : (bytes : List ℕ) → Option CaseHeader
 case_answer bytes =
     let header = case_fields bytes in
-    cond (ltb (length bytes) case_header_length) case.Bad
+    cond (ltb (length bytes) case_header_length) None
     (cond (eqb (case_size header) header.length)
-    (cond (ltb (length bytes) (case_size header)) case.Bad (case.Found header))
-    case.Bad)
+    (cond (ltb (length bytes) (case_size header)) None (Some header))
+    None)

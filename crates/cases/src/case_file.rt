@@ -19,7 +19,7 @@ ghost use Rattle.cases.specs.CaseFile.{
   rights_start,
 };
 
-use integers::{size8, size32, u32_at, u64_at};
+use integers::{u32_at, u64_at};
 
 // Before the cases: the magic, the number of cases, zeros.
 pub const FILE_HEADER_LENGTH: usize = 16;
@@ -60,86 +60,78 @@ pub struct CaseHeader {
     pub name_ends_lent: u32,
 }
 
-// How many cases a file says that it has.
-#[derive(Clone, Copy)]
-pub enum CountRead {
-    Found(u32),
-    // Not a case file.
-    Bad,
-}
-
-#[derive(Clone, Copy)]
-pub enum CaseRead {
-    Found(CaseHeader),
-    // The bytes end too soon, or the payload has another length than the header says.
-    Bad,
-}
-
-// The number of cases of a file.
-pub fn read_count(file: &[u8]) -> CountRead
+// The number of cases that a file says that it has; none where it is not a case file.
+pub fn read_count(file: &[u8]) -> Option<u32>
     ensures { result ≡ count_answer file.now }
 {
     if file.len() < FILE_HEADER_LENGTH {
-        return CountRead::Bad;
+        return None;
     }
     if u64_at(file, 0) != FILE_MAGIC {
-        return CountRead::Bad;
+        return None;
     }
-    CountRead::Found(u32_at(file, 8))
+    Some(u32_at(file, 8))
 }
 
-// The case with which the bytes begin.
-pub fn read_case(bytes: &[u8]) -> CaseRead
+// The case with which the bytes begin; none where they end too soon, or the payload has another
+// length than the header says.
+pub fn read_case(bytes: &[u8]) -> Option<CaseHeader>
     ensures { result ≡ case_answer bytes.now }
 {
     if bytes.len() < CASE_HEADER_LENGTH {
-        return CaseRead::Bad;
+        return None;
     }
     let header = read_header(bytes);
     let size = case_size(header);
-    if size != size32(header.length) {
-        return CaseRead::Bad;
+    if size != header.length as usize {
+        return None;
     }
     if bytes.len() < size {
-        return CaseRead::Bad;
+        return None;
     }
-    CaseRead::Found(header)
+    Some(header)
 }
+
+// ---- The parts of the payload
+
+// Each has a function of its own: a struct of all ten would say these ten clauses again, and one
+// function over an enum of the parts two `match`es of ten arms each, for where a part starts and
+// for how long it is.
 
 // The reference of the case with which the bytes begin.
 pub fn reference_part(bytes: &[u8], header: CaseHeader) -> &[u8]
     ensures { result.now
         ≡ part bytes.now (reference_start header) header.reference }
 {
-    bytes_from(bytes, reference_start(header), size32(header.reference))
+    bytes_from(bytes, reference_start(header), header.reference as usize)
 }
 
 // The input, a block or a file of them.
 pub fn input_part(bytes: &[u8], header: CaseHeader) -> &[u8]
     ensures { result.now ≡ part bytes.now (input_start header) header.input }
 {
-    bytes_from(bytes, input_start(header), size32(header.input))
+    bytes_from(bytes, input_start(header), header.input as usize)
 }
 
 // The letters that are given to the writer.
 pub fn letters_part(bytes: &[u8], header: CaseHeader) -> &[u8]
     ensures { result.now ≡ part bytes.now (letters_start header) header.letters }
 {
-    bytes_from(bytes, letters_start(header), size32(header.letters))
+    bytes_from(bytes, letters_start(header), header.letters as usize)
 }
 
 // The ends that are stored, four bytes each.
 pub fn ends_part(bytes: &[u8], header: CaseHeader) -> &[u8]
     ensures { result.now ≡ part bytes.now (ends_start header) (4 * header.stored) }
 {
-    bytes_from(bytes, ends_start(header), 4 * size32(header.stored))
+    bytes_from(bytes, ends_start(header), 4 * header.stored as usize)
 }
 
 // The names that are given to the writer.
 pub fn names_part(bytes: &[u8], header: CaseHeader) -> &[u8]
     ensures { result.now ≡ part bytes.now (names_start header) header.names }
 {
-    bytes_from(bytes, names_start(header), size32(header.names))
+    bytes_from(bytes, names_start(header), header.names as usize)
 }
 
 // The name ends that are stored, four bytes each.
@@ -150,7 +142,7 @@ pub fn name_ends_part(bytes: &[u8], header: CaseHeader) -> &[u8]
     bytes_from(
         bytes,
         name_ends_start(header),
-        4 * size32(header.names_stored),
+        4 * header.names_stored as usize,
     )
 }
 
@@ -159,27 +151,31 @@ pub fn positions_part(bytes: &[u8], header: CaseHeader) -> &[u8]
     ensures { result.now
         ≡ part bytes.now (positions_start header) (4 * header.positions) }
 {
-    bytes_from(bytes, positions_start(header), 4 * size32(header.positions))
+    bytes_from(
+        bytes,
+        positions_start(header),
+        4 * header.positions as usize,
+    )
 }
 
 // The strands that are proposed.
 pub fn strands_part(bytes: &[u8], header: CaseHeader) -> &[u8]
     ensures { result.now ≡ part bytes.now (strands_start header) header.strands }
 {
-    bytes_from(bytes, strands_start(header), size32(header.strands))
+    bytes_from(bytes, strands_start(header), header.strands as usize)
 }
 
 // The letters clipped left and right that are proposed.
 pub fn lefts_part(bytes: &[u8], header: CaseHeader) -> &[u8]
     ensures { result.now ≡ part bytes.now (lefts_start header) header.lefts }
 {
-    bytes_from(bytes, lefts_start(header), size32(header.lefts))
+    bytes_from(bytes, lefts_start(header), header.lefts as usize)
 }
 
 pub fn rights_part(bytes: &[u8], header: CaseHeader) -> &[u8]
     ensures { result.now ≡ part bytes.now (rights_start header) header.rights }
 {
-    bytes_from(bytes, rights_start(header), size32(header.rights))
+    bytes_from(bytes, rights_start(header), header.rights as usize)
 }
 
 // ---- Parts of the reading
@@ -220,70 +216,70 @@ fn read_header(bytes: &[u8]) -> CaseHeader
 fn case_size(header: CaseHeader) -> usize
     ensures { result ≡ case_size header }
 {
-    rights_start(header) + size32(header.rights)
+    rights_start(header) + header.rights as usize
 }
 
 // Where the reference starts.
 fn reference_start(header: CaseHeader) -> usize
     ensures { (result ≡ reference_start header) × (result < 2 ^ 9) }
 {
-    CASE_HEADER_LENGTH + size8(header.label)
+    CASE_HEADER_LENGTH + usize::from(header.label)
 }
 
 // Where the input starts.
 fn input_start(header: CaseHeader) -> usize
     ensures { (result ≡ input_start header) × (result < 2 ^ 33) }
 {
-    reference_start(header) + size32(header.reference)
+    reference_start(header) + header.reference as usize
 }
 
 // Where each of the parts that are given to the writer starts.
 fn letters_start(header: CaseHeader) -> usize
     ensures { (result ≡ letters_start header) × (result < 2 ^ 34) }
 {
-    input_start(header) + size32(header.input)
+    input_start(header) + header.input as usize
 }
 
 fn ends_start(header: CaseHeader) -> usize
     ensures { (result ≡ ends_start header) × (result < 2 ^ 35) }
 {
-    letters_start(header) + size32(header.letters)
+    letters_start(header) + header.letters as usize
 }
 
 fn names_start(header: CaseHeader) -> usize
     ensures { (result ≡ names_start header) × (result < 2 ^ 36) }
 {
-    ends_start(header) + 4 * size32(header.stored)
+    ends_start(header) + 4 * header.stored as usize
 }
 
 fn name_ends_start(header: CaseHeader) -> usize
     ensures { (result ≡ name_ends_start header) × (result < 2 ^ 37) }
 {
-    names_start(header) + size32(header.names)
+    names_start(header) + header.names as usize
 }
 
 fn positions_start(header: CaseHeader) -> usize
     ensures { (result ≡ positions_start header) × (result < 2 ^ 38) }
 {
-    name_ends_start(header) + 4 * size32(header.names_stored)
+    name_ends_start(header) + 4 * header.names_stored as usize
 }
 
 fn strands_start(header: CaseHeader) -> usize
     ensures { (result ≡ strands_start header) × (result < 2 ^ 39) }
 {
-    positions_start(header) + 4 * size32(header.positions)
+    positions_start(header) + 4 * header.positions as usize
 }
 
 fn lefts_start(header: CaseHeader) -> usize
     ensures { (result ≡ lefts_start header) × (result < 2 ^ 40) }
 {
-    strands_start(header) + size32(header.strands)
+    strands_start(header) + header.strands as usize
 }
 
 fn rights_start(header: CaseHeader) -> usize
     ensures { (result ≡ rights_start header) × (result < 2 ^ 41) }
 {
-    lefts_start(header) + size32(header.lefts)
+    lefts_start(header) + header.lefts as usize
 }
 
 // The `count` bytes from `from` on, or as many of them as there are.

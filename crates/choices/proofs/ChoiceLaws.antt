@@ -1,13 +1,13 @@
 -- The record of the fixed rule, kind by kind, out of what the code has tested. Assumes nothing.
 use mathlib.Core.Path.{◌≡◌, refl, sym, ap, ap₂, ◌∙◌, subst}
-use Prim.Native.Nat.{ℕ, ◌+◌, ◌-◌, ◌^◌, ◌≤◌, ◌<◌}
+use Prim.Native.Nat.{ℕ, ◌+◌, ◌^◌, ◌≤◌, ◌<◌}
 use native.Mathlib.Omega.{arith}
-use mathlib.Core.Bool.{Bool, true, false, cond, ◌&&◌}
+use mathlib.Core.Bool.{Bool, true, false, ◌&&◌}
 use mathlib.Core.List.{List}
 use lib.ListN.{length}
 use lib.Dec.{leb, eqb}
 use borrow.Author.Tests.{eq-eqb, ne_eqb, lt-ltb, le-ltb, le-leb, lt-leb}
-use Rattle.base.proofs.ListLaws.{by_order, by_test}
+use Rattle.base.proofs.ListLaws.{by_test}
 use Rattle.base.proofs.Tests.{both_and}
 use Rattle.dna.specs.Reference.{max_reference_bases, reference_size_wrong, ReferenceFits}
 use Rattle.dna.specs.Record.{max_entries, max_n_positions, Entry}
@@ -20,9 +20,11 @@ use Rattle.format.specs.RuleRecord.{Candidate, n_offsets_of, aligned_count, cand
 use Rattle.format.specs.RuleRecord.{place_used, stored_position, Choice, choose_raw4, choose_aligned}
 use Rattle.format.specs.RuleRecord.{choose_raw, choice_for, is_perfect, written_as, written}
 use Rattle.format.proofs.WrittenRecord.{stored-inside}
-use Rattle.letter_packing.specs.Read.{ReadLies, codes_in}
-use Rattle.letter_packing.proofs.ReadLaws.{length_codes_in}
-use Rattle.mismatches.specs.Entries.{answered_count, EntriesPut}
+use Rattle.letter_packing.specs.Read.{ReadFits, codes_of}
+use Rattle.letter_packing.proofs.ReadLaws.{length_codes_of}
+use Rattle.mismatches.specs.Entries.{EntriesPut}
+use Rattle.mismatches.proofs.PutLaws.{put_within, put_over}
+use Rattle.std.specs.Prelude.{Some, None}
 use Rattle.record_writer.specs.Written.{fields_for, offsets_for, forward_for, incremental_for}
 use Rattle.record_writer.specs.Written.{record_written}
 use Rattle.record_writer.specs.Writable.{list_stored, PlacementFits, KindFits}
@@ -67,42 +69,18 @@ kind_fits codes candidate entries size low clips =
     (λ t. by_test (eqb entries 0) (λ u. rw (t, u) fits) (λ u. rw (t, u) fits))
     (λ t. rw t fits)
 
--- ---- How many entries
-
--- 32 is answered exactly if there are more than 31.
-many-entries : (count answer : ℕ) → answer ≡ answered_count count → max_entries < answer
-    → max_entries < count
-unfolding answered_count
-many-entries count answer is over =
-    by_order max_entries count (λ h. h)
-    (λ h.
-    let same : answer ≡ count =
-    is ∙ ap (λ (t : Bool). cond t count 32) (le-leb count max_entries h) in
-    absurd (omega arith))
-
-few-entries : (count answer : ℕ) → answer ≡ answered_count count → answer ≤ max_entries
-    → answer ≡ count
-unfolding answered_count
-few-entries count answer is few =
-    by_order max_entries count
-    (λ h.
-    let past : answer ≡ 32 =
-    is ∙ ap (λ (t : Bool). cond t count 32) (lt-leb count max_entries h) in
-    absurd (omega arith))
-    (λ h. is ∙ ap (λ (t : Bool). cond t count 32) (le-leb count max_entries h))
+-- ---- The rule's choice
 
 and_false : (s t : Bool) → t ≡ false → s && t ≡ false
 and_false true t e = e
 and_false false t e = refl
 
--- ---- The rule's choice
-
-module _ (bases : ℕ) (reference letters : List ℕ) (from to : ℕ) (candidate : Candidate)
-    (list : List ℕ) (count : ℕ) (lies : ReadLies letters from to)
-    (counted : count ≡ length (n_offsets_of (codes_in letters from to)))
+module _ (bases : ℕ) (reference read : List ℕ) (candidate : Candidate)
+    (list : List ℕ) (count : ℕ) (fits : ReadFits read)
+    (counted : count ≡ length (n_offsets_of (codes_of read)))
     (room : max_entries ≤ length list) where
   abbrev codes : List ℕ
-  codes = codes_in letters from to
+  codes = codes_of read
 
   abbrev entries : List Entry
   entries = candidate_entries reference codes candidate
@@ -139,14 +117,14 @@ module _ (bases : ℕ) (reference letters : List ℕ) (from to : ℕ) (candidate
 
   -- More than 31 N: raw4.
   pub raw4_chosen : max_n_positions < count
-      → ChosenByRule bases reference letters from to candidate list
+      → ChosenByRule bases reference read candidate list
       (record { «record» = kinds.Raw4; entries = 0; n_count = count })
   unfolding record_written written_as fields_for offsets_for forward_for incremental_for is_perfect
       list_stored
   raw4_chosen many =
       record {
         writable = record {
-          lies = lies;
+          fits = fits;
           counted = counted;
           listed = λ e. absurd (let z : ◌≡◌ {A = ℕ} 0 1 = cc in omega arith);
           few = omega arith;
@@ -158,13 +136,13 @@ module _ (bases : ℕ) (reference letters : List ℕ) (from to : ℕ) (candidate
 
   -- A place that is not used: raw.
   raw_chosen : count ≤ max_n_positions → used ≡ false
-      → ChosenByRule bases reference letters from to candidate list
+      → ChosenByRule bases reference read candidate list
       (record { «record» = kinds.Raw; entries = 0; n_count = count })
   unfolding record_written written_as fields_for offsets_for forward_for incremental_for is_perfect
   raw_chosen few unused =
       record {
         writable = record {
-          lies = lies;
+          fits = fits;
           counted = counted;
           listed = λ e. few;
           few = omega arith;
@@ -176,22 +154,22 @@ module _ (bases : ℕ) (reference letters : List ℕ) (from to : ℕ) (candidate
 
   -- A place that is used.
   aligned_chosen : count ≤ max_n_positions → used ≡ true → stored_position codes candidate < 2 ^ 32
-      → candidate.left + candidate.right < to - from → (n : ℕ) (record' : Record)
+      → candidate.left + candidate.right < length read → (n : ℕ) (record' : Record)
       → n ≡ length entries → n ≤ max_entries → record' ≡ aligned_record codes candidate n
       → entries_at list 0 n ≡ entries
-      → ChosenByRule bases reference letters from to candidate list
+      → ChosenByRule bases reference read candidate list
       (record { «record» = record'; entries = n; n_count = count })
   unfolding chosen_record
   aligned_chosen few t low clips n record' all fit is stand =
       record {
         writable = record {
-          lies = lies;
+          fits = fits;
           counted = counted;
           listed = λ e. few;
           few = fit;
           kind =
-              subst (λ (r : Record). KindFits r (to - from)) (sym is)
-              (kind_fits codes candidate n (to - from) low clips);
+              subst (λ (r : Record). KindFits r (length read)) (sym is)
+              (kind_fits codes candidate n (length read) low clips);
         };
         room = room;
         rule = λ previous.
@@ -201,54 +179,51 @@ module _ (bases : ℕ) (reference letters : List ℕ) (from to : ℕ) (candidate
             ∙ chosen choose_aligned (used_choice few t) previous;
       }
 
-  size : length codes ≡ to - from
-  size = length_codes_in letters from to lies.ordered lies.inside
+  size : length codes ≡ length read
+  size = length_codes_of read
 
   -- ---- Out of what is tested
 
   -- A read that does not fit the place: raw.
-  pub unfit_chosen : count ≤ max_n_positions → (fits : Bool)
-      → fits ≡ place_fits bases (to - from) candidate → fits ≡ false
-      → ChosenByRule bases reference letters from to candidate list
+  pub unfit_chosen : count ≤ max_n_positions → place_fits bases (length read) candidate ≡ false
+      → ChosenByRule bases reference read candidate list
       (record { «record» = kinds.Raw; entries = 0; n_count = count })
-  unfit_chosen few fits is unfit =
+  unfit_chosen few unfit =
       raw_chosen few
-      (used-fits bases reference codes candidate (to - from) size
-      ∙ ap (λ (t : Bool). t && leb (length entries) max_entries) (sym is ∙ unfit))
+      (used-fits bases reference codes candidate (length read) size
+      ∙ ap (λ (t : Bool). t && leb (length entries) max_entries) unfit)
 
   -- More than 31 entries: raw.
-  pub over_chosen : count ≤ max_n_positions → {old new : List ℕ} {n : ℕ}
-      → EntriesPut old new 0 entries n → max_entries < n
-      → ChosenByRule bases reference letters from to candidate list
+  pub over_chosen : count ≤ max_n_positions → {old new : List ℕ}
+      → EntriesPut old new 0 entries None
+      → ChosenByRule bases reference read candidate list
       (record { «record» = kinds.Raw; entries = 0; n_count = count })
-  over_chosen few {old} {new} {n} put over =
+  over_chosen few {old} {new} put =
       raw_chosen few
-      (used-fits bases reference codes candidate (to - from) size
-      ∙ and_false (place_fits bases (to - from) candidate) _
-      (lt-leb (length entries) max_entries
-      (omega (arith, many-entries (0 + length entries) n put.counted over))))
+      (used-fits bases reference codes candidate (length read) size
+      ∙ and_false (place_fits bases (length read) candidate) _
+      (lt-leb (length entries) max_entries (omega (arith, put_over put))))
 
   -- No more: the record at the place.
-  pub used_chosen : count ≤ max_n_positions → (fits : Bool)
-      → fits ≡ place_fits bases (to - from) candidate → fits ≡ true
+  pub used_chosen : count ≤ max_n_positions → place_fits bases (length read) candidate ≡ true
       → reference_size_wrong bases reference ≡ false → {old : List ℕ} {n : ℕ}
-      → max_entries ≤ length old → EntriesPut old list 0 entries n → n ≤ max_entries
+      → max_entries ≤ length old → EntriesPut old list 0 entries (Some n)
       → (record' : Record) → record' ≡ aligned_record codes candidate n
-      → ChosenByRule bases reference letters from to candidate list
+      → ChosenByRule bases reference read candidate list
       (record { «record» = record'; entries = n; n_count = count })
   unfolding aligned_count
-  used_chosen few fits made yes' right {old} {n} wide put fit record' is =
-      let all : n ≡ length entries =
-      omega (arith, few-entries (0 + length entries) n put.counted fit) in
-      let inside = fits_inside bases (to - from) candidate fits made yes' in
+  used_chosen few placed right {old} {n} wide put record' is =
+      let within = put_within put in
+      let all : n ≡ length entries = omega (arith, within.0) in
+      let inside = fits_inside bases (length read) candidate placed in
       let sized : ReferenceFits bases reference = record { fits = right } in
       let stored =
       stored-inside max_reference_bases codes candidate (omega (arith, size, inside.0))
       (omega (arith, size, inside.1, (reference-length sized).0)) in
       aligned_chosen few
-      (used-fits bases reference codes candidate (to - from) size
-      ∙ both_and _ _ (sym made ∙ yes') (le-leb (length entries) max_entries (omega arith)))
-      (omega (arith, stored)) inside.0 n record' all fit is
+      (used-fits bases reference codes candidate (length read) size
+      ∙ both_and _ _ placed (le-leb (length entries) max_entries (omega (arith, within.1))))
+      (omega (arith, stored)) inside.0 n record' all within.1 is
       (ap (entries_at list 0) all
-      ∙ entries_back letters from to lies reference candidate (omega arith) old list (omega arith)
-      (put.stand (omega arith)))
+      ∙ entries_back read fits reference candidate (omega arith) old list
+      (omega (arith, within.1)) within.2)

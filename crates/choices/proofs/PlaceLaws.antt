@@ -1,13 +1,21 @@
 -- A candidate's place: when a read fits it, and the entries there. Assumes nothing.
 use mathlib.Core.Path.{◌≡◌, refl, sym, ap, ap₂, ◌∙◌, subst}
 use Prim.Native.Nat.{ℕ, ◌+◌, ◌-◌, ◌≤◌, ◌<◌}
+use native.Mathlib.Nat.{zero-add}
 use native.Mathlib.Omega.{arith}
-use mathlib.Core.Bool.{Bool, true, false, not, ◌&&◌, ◌||◌}
+use mathlib.Core.Bool.{Bool, true, false, cond, not, ◌&&◌, ◌||◌}
 use mathlib.Core.List.{List, [], ◌∷◌, map}
-use lib.ListN.{length, get_or, take, length-map}
+use lib.ListN.{length, get_or, take, drop, length-map, length-drop}
+use lib.Seq.{length-take-le}
+use Rattle.std.proofs.lemmas.List.{take_all}
 use lib.Dec.{leb, ltb, eqb}
+use Rattle.std.specs.Prelude.{Option, Some, None}
 use borrow.Author.Tests.{eqb-false, lt-ltb, le-ltb, ltb-true, leb-true}
-use Rattle.base.specs.Lists.{keep, places_where, All}
+use Rattle.base.specs.Lists.{part, keep, places_where, All, Below}
+use Rattle.dna.specs.declared.Strand.{Strand}
+use Rattle.dna.specs.declared.Strand.TheVariants as strands
+use Rattle.format.specs.RuleEntries.{entries_of_gaps}
+use Rattle.format.specs.RuleBlock.{code_of_letter}
 use Rattle.base.specs.Paste.{pasted}
 use Rattle.base.proofs.ListLaws.{by_test, below_at}
 use Rattle.base.proofs.PasteLaws.{length_pasted, take_pasted}
@@ -18,13 +26,13 @@ use Rattle.format.specs.RuleEntries.{differs_at, gaps_of}
 use Rattle.format.specs.RuleRecord.{Candidate, aligned_count, candidate_entries, place_used}
 use Rattle.format.proofs.WrittenEntries.{entries_fit}
 use Rattle.format.proofs.WritesBlocks.Inputs.{code-back}
-use Rattle.letter_packing.specs.Read.{ReadLies, codes_in}
+use Rattle.letter_packing.specs.Read.{ReadFits, codes_of}
 use Rattle.mismatches.specs.Entries.{stretch_base, aligned_codes, stretch_entries, EntriesPut}
 use Rattle.mismatches.specs.Entries.{AlignedFits}
 use Rattle.mismatches.proofs.CodeLaws.{stretch_base-below, length_aligned_codes, get_or_aligned_codes}
 use Rattle.mismatches.proofs.CandidateLaws.{candidate-entries}
 use Rattle.record_writer.proofs.FieldLaws.{entries-read}
-use Rattle.choices.specs.Choice.{place_fits}
+use Rattle.choices.specs.Choice.{place_fits, strand_named}
 
 -- ---- Whether a read fits
 
@@ -36,27 +44,25 @@ module _ (bases size : ℕ) (candidate : Candidate) where
   known = eqb candidate.strand 1 || eqb candidate.strand 2
 
   -- The tests, one after the other.
-  pub no_strand : known ≡ false → false ≡ place_fits bases size candidate
+  pub no_strand : known ≡ false → place_fits bases size candidate ≡ false
   unfolding place_fits
   no_strand s = rw s
 
-  pub no_letters : known ≡ true → size ≤ clipped → false ≡ place_fits bases size candidate
+  pub no_letters : known ≡ true → size ≤ clipped → place_fits bases size candidate ≡ false
   unfolding place_fits
   no_letters s few = rw (s, le-ltb clipped size few)
 
-  pub stretch_tested : known ≡ true → clipped < size → (end : ℕ)
-      → end ≡ candidate.position + (size - clipped)
-      → leb end bases ≡ place_fits bases size candidate
+  pub stretch_tested : known ≡ true → clipped < size
+      → place_fits bases size candidate ≡ leb (candidate.position + (size - clipped)) bases
   unfolding place_fits
-  stretch_tested s some end is =
-      rw (s, lt-ltb clipped size some) (ap (λ (n : ℕ). leb n bases) is)
+  stretch_tested s some = rw (s, lt-ltb clipped size some)
 
   -- What it means that a read fits.
-  pub fits_inside : (fits : Bool) → fits ≡ place_fits bases size candidate → fits ≡ true
+  pub fits_inside : place_fits bases size candidate ≡ true
       → (clipped < size) × (candidate.position + (size - clipped) ≤ bases)
   unfolding place_fits
-  fits_inside fits is yes' =
-      let both = and_both _ _ (and_both known _ (sym is ∙ yes')).1 in
+  fits_inside fits =
+      let both = and_both _ _ (and_both known _ fits).1 in
       (ltb-true clipped size both.0, leb-true _ bases both.1)
 
 and_last : (s t u v : Bool) → s && (t && (u && v)) ≡ (s && (t && u)) && v
@@ -82,28 +88,104 @@ used-fits bases reference codes candidate size is =
     ∙ and_last (eqb candidate.strand 1 || eqb candidate.strand 2) (ltb clipped size)
     (leb (candidate.position + (size - clipped)) bases) few
 
+-- ---- Its strand
+
+module _ (number : ℕ) where
+  -- A number that names a strand, and one that names none.
+  pub named : {strand : Strand} → Some strand ≡ strand_named number
+      → (eqb number 1 || eqb number 2 ≡ true)
+      × (strand ≡ cond (eqb number 1) strands.Forward strands.Reverse)
+  unfolding strand_named
+  named {strand} is =
+      by_test (eqb number 1)
+      (λ one. let e : Some strand ≡ Some strands.Forward = rw one at is in rw one (refl, cc))
+      (λ other.
+      by_test (eqb number 2)
+      (λ two.
+      let e : Some strand ≡ Some strands.Reverse = rw (other, two) at is in
+      rw (other, two) (refl, cc))
+      (λ none. let e : Some strand ≡ None = rw (other, none) at is in absurd cc))
+
+  pub unnamed : None ≡ strand_named number → eqb number 1 || eqb number 2 ≡ false
+  unfolding strand_named
+  unnamed is =
+      by_test (eqb number 1)
+      (λ one. let e : None ≡ Some strands.Forward = rw one at is in absurd cc)
+      (λ other.
+      by_test (eqb number 2)
+      (λ two. let e : None ≡ Some strands.Reverse = rw (other, two) at is in absurd cc)
+      (λ none. rw (other, none)))
+
+  -- Which number the strand has.
+  pub number-forward : {strand : Strand}
+      → strand ≡ cond (eqb number 1) strands.Forward strands.Reverse → strand ≡ strands.Forward
+      → eqb number 1 ≡ true
+  number-forward {strand} is forward =
+      by_test (eqb number 1) (λ one. one)
+      (λ other. let e : strand ≡ strands.Reverse = rw other at is in absurd cc)
+
+  pub number-reverse : {strand : Strand}
+      → strand ≡ cond (eqb number 1) strands.Forward strands.Reverse → strand ≡ strands.Reverse
+      → eqb number 1 ≡ false
+  number-reverse {strand} is reverse =
+      by_test (eqb number 1)
+      (λ one. let e : strand ≡ strands.Forward = rw one at is in absurd cc) (λ other. other)
+
 -- ---- The entries there
 
 -- A part of a read can be aligned.
-pub lies-aligned : {letters : List ℕ} {from to : ℕ} (start aligned : ℕ) → ReadLies letters from to
-    → from ≤ start → start + aligned ≤ to → AlignedFits letters start aligned
-lies-aligned {letters} start aligned lies low high =
-    let inside : start + aligned ≤ length letters = omega (arith, lies.inside) in
+pub fits-aligned : {read : List ℕ} (start aligned : ℕ) → ReadFits read
+    → start + aligned ≤ length read → AlignedFits read start aligned
+fits-aligned {read} start aligned fits inside =
     record {
       inside = inside;
       known = record {
         each = λ k h.
             let here : k < aligned =
-            omega (arith, length_aligned_codes letters start aligned inside) in
+            omega (arith, length_aligned_codes read start aligned inside) in
             subst (λ (code : ℕ). code < 5)
-            (sym (get_or_aligned_codes letters start aligned inside k here))
-            (code-back (get_or letters (start + k) 0)
-            (lies.known (start + k) (omega arith) (omega arith))).0;
+            (sym (get_or_aligned_codes read start aligned inside k here))
+            (code-back (get_or read (start + k) 0) (fits.known (start + k) (omega arith))).0;
       };
     }
 
+-- The aligned letters alone, and their entries.
+length-part : (letters : List ℕ) (start aligned : ℕ) → start + aligned ≤ length letters
+    → length (part letters start aligned) ≡ aligned
+length-part letters start aligned inside =
+    length-take-le aligned (drop start letters) (omega (arith, length-drop start letters))
+
+part-codes : (letters : List ℕ) (start aligned : ℕ) → start + aligned ≤ length letters
+    → aligned_codes (part letters start aligned) 0 (length (part letters start aligned))
+    ≡ aligned_codes letters start aligned
+unfolding aligned_codes
+part-codes letters start aligned inside = ap (map code_of_letter)
+    (take_all (length (part letters start aligned)) (part letters start aligned) (omega arith))
+
+pub aligned-alone : {letters : List ℕ} {start aligned : ℕ} → AlignedFits letters start aligned
+    → AlignedFits (part letters start aligned) 0 (length (part letters start aligned))
+aligned-alone {letters} {start} {aligned} fits =
+    record {
+      inside = omega arith;
+      known = subst (λ (codes : List ℕ). Below 5 codes)
+          (sym (part-codes letters start aligned fits.inside)) fits.known;
+    }
+
+pub entries-alone : (letters : List ℕ) (start aligned : ℕ) → start + aligned ≤ length letters
+    → (reference : List ℕ) (forward : Bool) (leftmost : ℕ)
+    → stretch_entries (part letters start aligned) 0 reference forward leftmost
+    (length (part letters start aligned))
+    ≡ stretch_entries letters start reference forward leftmost aligned
+unfolding stretch_entries
+entries-alone letters start aligned inside reference forward leftmost =
+    ap₂
+    (λ (n : ℕ) (codes : List ℕ).
+    entries_of_gaps (stretch_base reference forward leftmost n) 0
+    (gaps_of (stretch_base reference forward leftmost n) codes))
+    (length-part letters start aligned inside) (part-codes letters start aligned inside)
+
 -- Entries that are put are those that they are equal to.
-pub put_same : {old new : List ℕ} {one two : List Entry} {answer : ℕ} → one ≡ two
+pub put_same : {old new : List ℕ} {one two : List Entry} {answer : Option ℕ} → one ≡ two
     → EntriesPut old new 0 one answer → EntriesPut old new 0 two answer
 put_same {old} {new} {one} {two} {answer} e put =
     subst (λ (entries : List Entry). EntriesPut old new 0 entries answer) e put
@@ -134,43 +216,41 @@ stretch-fit letters start aligned fits reference forward leftmost =
       below_at codes (omega arith) fits.known k,
     )))
 
-module _ (letters : List ℕ) (from to : ℕ) (lies : ReadLies letters from to) (reference : List ℕ)
-    (candidate : Candidate) (fits : candidate.left + candidate.right ≤ to - from) where
+module _ (read : List ℕ) (fits : ReadFits read) (reference : List ℕ) (candidate : Candidate)
+    (clips : candidate.left + candidate.right ≤ length read) where
   abbrev entries : List Entry
-  entries = candidate_entries reference (codes_in letters from to) candidate
+  entries = candidate_entries reference (codes_of read) candidate
 
   abbrev aligned : ℕ
-  aligned = to - from - (candidate.left + candidate.right)
+  aligned = length read - (candidate.left + candidate.right)
+
+  whole : codes_of read ≡ aligned_codes read 0 (length read)
+  unfolding codes_of aligned_codes
+  whole = ap (map code_of_letter) (sym (take_all (length read) read (omega arith)))
 
   -- The entries of the read at the place are those of its aligned letters at the stretch.
   same_entries : entries
-      ≡ stretch_entries letters (from + candidate.left) reference (eqb candidate.strand 1)
+      ≡ stretch_entries read candidate.left reference (eqb candidate.strand 1)
       candidate.position aligned
-  unfolding codes_in aligned_codes
   same_entries =
-      candidate-entries letters from (to - from) reference candidate
-      (omega (arith, lies.ordered, lies.inside)) fits
+      ap (λ (codes : List ℕ). candidate_entries reference codes candidate) whole
+      ∙ candidate-entries read 0 (length read) reference candidate (omega arith) clips
+      ∙ ap (λ (start : ℕ).
+      stretch_entries read start reference (eqb candidate.strand 1) candidate.position aligned)
+      (zero-add candidate.left)
 
-  pub place_entries : (start count leftmost : ℕ) → start ≡ from + candidate.left
-      → count ≡ aligned → leftmost ≡ candidate.position
-      → stretch_entries letters start reference (eqb candidate.strand 1) leftmost count
+  pub place_entries : (start count : ℕ) → start ≡ candidate.left → count ≡ aligned
+      → stretch_entries read start reference (eqb candidate.strand 1) candidate.position count
       ≡ entries
-  place_entries start count leftmost is₁ is₂ is₃ =
-      ap₂ (λ (s n : ℕ). stretch_entries letters s reference (eqb candidate.strand 1) leftmost n)
-      is₁ is₂
-      ∙ ap
-      (λ (l : ℕ).
-      stretch_entries letters (from + candidate.left) reference (eqb candidate.strand 1) l
-      aligned)
-      is₃
+  place_entries start count is₁ is₂ =
+      ap₂ (λ (s n : ℕ).
+      stretch_entries read s reference (eqb candidate.strand 1) candidate.position n) is₁ is₂
       ∙ sym same_entries
 
   entries_narrow : All EntryFits entries
   entries_narrow =
       subst (All EntryFits) (sym same_entries)
-      (stretch-fit letters (from + candidate.left) aligned
-      (lies-aligned (from + candidate.left) aligned lies (omega arith)
-      (omega (arith, lies.ordered)))
+      (stretch-fit read candidate.left aligned (fits-aligned candidate.left aligned fits (omega arith))
       reference (eqb candidate.strand 1) candidate.position)
 
   -- The entries that are written at the start of a list are read there.

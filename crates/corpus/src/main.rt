@@ -3,8 +3,8 @@
 #![tactic(auto)]
 
 mod case_files;
+mod columns;
 mod kinds;
-mod lines;
 mod outcomes;
 mod read_lengths;
 mod reading;

@@ -1,11 +1,9 @@
 // Cases of reading: a block judged, a block decoded into lent buffers, a file judged.
-ghost use Rattle.std.specs.Prelude.{◌≡◌, length};
-
-use crate::lines::{end_line, put_column, start_line};
+use crate::case_files::Fault;
+use crate::columns::{end_line, put_column, start_line};
 use crate::outcomes::{put_block_outcome, put_file_outcome};
 use cases::case_file::{CaseHeader, input_part, reference_part};
 use cases::hash::{HASH_START, hash_number, hash_of};
-use integers::size32;
 use std::io;
 
 // The most letters, ends and name bytes that a case lends; there are no more name ends than ends.
@@ -48,34 +46,28 @@ pub fn run_validate(
     end_line(rt)
 }
 
-// A block decoded, with the hashes of the four buffers after the call; false where the case lends
-// more than there is.
+// A block decoded, with the hashes of the four buffers after the call.
 pub fn run_decode(
     rt: &impl Print,
     index: u32,
     bytes: &[u8],
     header: CaseHeader,
-) -> io::Result<bool> {
-    let letter_room = size32(header.letters_lent);
-    let end_room = size32(header.ends_lent);
-    let name_room = size32(header.names_lent);
-    let name_end_room = size32(header.name_ends_lent);
-    if MAX_LETTERS < letter_room {
-        return Ok(false);
+) -> Result<(), Fault> {
+    let letter_room = header.letters_lent as usize;
+    let end_room = header.ends_lent as usize;
+    let name_room = header.names_lent as usize;
+    let name_end_room = header.name_ends_lent as usize;
+    if MAX_LETTERS < letter_room
+        || MAX_ENDS < end_room
+        || MAX_NAMES < name_room
+        || MAX_ENDS < name_end_room
+    {
+        return Err(Fault::BadFile);
     }
-    if MAX_ENDS < end_room {
-        return Ok(false);
-    }
-    if MAX_NAMES < name_room {
-        return Ok(false);
-    }
-    if MAX_ENDS < name_end_room {
-        return Ok(false);
-    }
-    let mut letters = untouched_letters();
-    let mut ends = untouched_ends();
-    let mut names = untouched_names();
-    let mut name_ends = untouched_ends();
+    let mut letters = [UNTOUCHED_BYTE; MAX_LETTERS];
+    let mut ends = [UNTOUCHED_END; MAX_ENDS];
+    let mut names = [UNTOUCHED_BYTE; MAX_NAMES];
+    let mut name_ends = [UNTOUCHED_END; MAX_ENDS];
     decode_into(
         rt,
         index,
@@ -86,25 +78,7 @@ pub fn run_decode(
         &mut names[..name_room],
         &mut name_ends[..name_end_room],
     )?;
-    Ok(true)
-}
-
-fn untouched_letters() -> [u8; MAX_LETTERS]
-    ensures { 65_540 ≡ length result }
-{
-    [UNTOUCHED_BYTE; MAX_LETTERS]
-}
-
-fn untouched_names() -> [u8; MAX_NAMES]
-    ensures { 32_768 ≡ length result }
-{
-    [UNTOUCHED_BYTE; MAX_NAMES]
-}
-
-fn untouched_ends() -> [u32; MAX_ENDS]
-    ensures { 4_096 ≡ length result }
-{
-    [UNTOUCHED_END; MAX_ENDS]
+    Ok(())
 }
 
 // The line of a block that is decoded into these buffers.
@@ -140,11 +114,7 @@ fn decode_into(
 
 // The hash of some numbers, four bytes each.
 pub fn hash_numbers(numbers: &[u32]) -> u64 {
-    let mut hash = HASH_START;
-    let mut i: usize = 0;
-    while i < numbers.len() {
-        hash = hash_number(hash, numbers[i]);
-        i += 1;
-    }
-    hash
+    numbers
+        .iter()
+        .fold(HASH_START, |hash, number| hash_number(hash, *number))
 }

@@ -1,5 +1,5 @@
 // Cases of sections: what section, section_span and block_id give.
-use crate::lines::{end_line, put_column, start_line};
+use crate::columns::{end_line, put_column, start_line};
 use cases::hash::hash_of;
 use std::io;
 
@@ -11,10 +11,8 @@ pub fn run_sections(rt: &impl Print, index: u32, input: &[u8]) -> io::Result<()>
     start_line(rt, index, b"sections")?;
     put_column(rt, ora::block_id(input))?;
     end_line(rt)?;
-    let mut number: u64 = 0;
-    while number < ASKED_SECTIONS {
+    for number in 0..ASKED_SECTIONS {
         run_section(rt, index, input, number)?;
-        number += 1;
     }
     Ok(())
 }

@@ -16,3 +16,4 @@ pub mod FirstFault
 pub mod SizesAt
 pub mod SumsAnswered
 pub mod TopExample
+pub mod Refused

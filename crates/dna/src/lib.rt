@@ -1,13 +1,13 @@
 // The types that the decoder, the encoder and every walk over records share (01, Records), and the
-// numbers of refusal. Their meaning is given in specs/, which name none of them below the answers
-// of the calls.
+// refusals. Their meaning is given in specs/, which name none of them below the answers of the
+// calls.
 
 #![tactic(auto)]
 
 pub mod refusals;
 
 // The strand that a read was aligned to.
-#[derive(Clone, Copy)]
+#[derive(Clone, Copy, PartialEq, Eq)]
 pub enum Strand {
     Forward,
     Reverse,
@@ -39,7 +39,7 @@ pub enum Record {
 pub const MAX_ENTRIES: usize = 31;
 
 // The counts of a block or of a file (01: counts of a block; the last is that of 02, Ticket 4).
-#[derive(Clone, Copy)]
+#[derive(Clone, Copy, Default)]
 pub struct Counts {
     pub reads: u64,
     pub letters: u64,

@@ -1,11 +1,12 @@
 -- The bits of a read, kind by kind. Assumes nothing.
-use mathlib.Core.Path.{◌≡◌, ap}
-use Prim.Native.Nat.{ℕ, ◌+◌, ◌*◌}
+use mathlib.Core.Path.{◌≡◌, refl, ap}
+use Prim.Native.Nat.{ℕ, ◌+◌, ◌*◌, ◌≤◌}
 use native.Mathlib.Omega.{arith}
-use mathlib.Core.Bool.{Bool, cond}
+use mathlib.Core.Bool.{Bool, true, false, cond}
 use mathlib.Core.List.{List}
 use lib.ListN.{length}
 use lib.Dec.{ltb}
+use Rattle.std.specs.Int.{from_bool}
 use Rattle.base.specs.Lists.{member}
 use Rattle.dna.specs.Reference.{code_n}
 use Rattle.dna.specs.Record.{Entry}
@@ -17,6 +18,15 @@ use Rattle.record_writer.specs.Written.{fields_for, is_forward, forward_for, inc
 use Rattle.record_writer.specs.Written.{record_written}
 use Rattle.record_writer.proofs.ListLaws.{n-counted}
 use Rattle.dna_writer.specs.Writer.{flag_bits}
+
+-- A bit is 1 or 0 by its test.
+pub bit-is : (test : Bool) → ◌≡◌ {A = ℕ} (from_bool test) (cond test 1 0)
+bit-is true = refl
+bit-is false = refl
+
+pub bit-small : (test : Bool) → from_bool test ≤ 1
+bit-small true = omega arith
+bit-small false = omega arith
 
 module _ (bases previous : ℕ) (entries : List Entry) (codes : List ℕ) (count : ℕ)
     (is : count ≡ length (n_offsets_of codes)) where

@@ -1,6 +1,6 @@
 -- What is lent without a fault of 1 and 30 to 33: the lists are as long as the ends, and each read
 -- lies in the letters. Assumes nothing.
-use mathlib.Core.Path.{◌≡◌, refl, sym, ap, ◌∙◌, subst}
+use mathlib.Core.Path.{◌≡◌, refl, ap, ◌∙◌}
 use Prim.Native.Nat.{ℕ, zero, suc, ◌+◌, ◌-◌, ◌≤◌, ◌<◌}
 use native.Mathlib.Omega.{arith}
 use mathlib.Core.Bool.{false, not, ◌||◌}
@@ -17,8 +17,11 @@ use Rattle.format.specs.HeaderFaults.{max_reads}
 use Rattle.format.specs.EncodeAnswer.{EncodeInput, read_count_too_large, candidate_count_wrong}
 use Rattle.format.specs.EncodeAnswer.{read_ends_invalid, letter_invalid, encode_faults}
 use Rattle.format.proofs.RuleMeans.{step-valid}
-use Rattle.letter_packing.specs.Read.{ReadLies}
+use Rattle.letter_packing.specs.Read.{ReadLies, ReadFits}
+use Rattle.letter_packing.proofs.ReadLaws.{lies-fits}
 use Rattle.dna_writer.specs.Lent.{lent_number}
+use Rattle.dna_writer.specs.Reads.{input_of, read_of}
+use Rattle.dna_writer.specs.declared.lent.LentReads.{LentReads}
 
 -- What the walks over the reads want of the input.
 pub record WellLent (bases : ℕ) (reference : List ℕ) (input : EncodeInput) : Type 0 where
@@ -113,15 +116,14 @@ module _ (bases : ℕ) (reference : List ℕ) (input : EncodeInput)
             };
       }
 
--- A read as the code has it.
-pub lies_at : {bases : ℕ} {reference : List ℕ} {input : EncodeInput}
-    → WellLent bases reference input → (i from to : ℕ) → i < length input.ends
-    → from ≡ get_or (0 ∷ input.ends) i 0
-    → to ≡ get_or input.ends i 0 → ReadLies input.letters from to
-lies_at {input = input} well i from to inside starts ends =
-    subst (λ (t : ℕ). ReadLies input.letters from t) (sym ends)
-    (subst (λ (f : ℕ). ReadLies input.letters f (get_or input.ends i 0)) (sym starts)
-    (well.lies i inside))
+-- The same of what the code holds.
+pub well_of : (reads : LentReads) → WellLent reads.bases reads.reference.now (input_of reads)
+well_of reads = well_lent reads.bases reads.reference.now (input_of reads) reads.faultless
+
+-- A read can be written.
+pub read-fits : (reads : LentReads) (i : ℕ) → i < length reads.ends.now
+    → ReadFits (read_of reads i)
+read-fits reads i inside = lies-fits ((well_of reads).lies i inside)
 
 -- A read starts where the one before ends.
 pub starts-after : (ends : List ℕ) (i : ℕ) → (i ≡ 0 → ⊥)

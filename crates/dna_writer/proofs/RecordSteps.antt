@@ -1,19 +1,20 @@
 -- The records of an input from one read to the next. Assumes nothing.
-use mathlib.Core.Path.{◌≡◌, refl, sym, ap, ap₂, ◌∙◌}
+use mathlib.Core.Path.{◌≡◌, refl, sym, ap, ◌∙◌}
 use Prim.Native.Nat.{ℕ, zero, suc, ◌+◌, ◌-◌, ◌*◌, ◌/◌, ◌≤◌, ◌<◌, min}
 use native.Mathlib.Omega.{arith}
-use mathlib.Core.List.{List, [], ◌∷◌, map, flat_map}
-use lib.ListN.{length, get_or, drop, length-drop, length-append}
-use Rattle.base.specs.Lists.{part}
+use mathlib.Core.List.{List, [], ◌∷◌, flat_map}
+use lib.ListN.{length, drop, length-drop, length-append}
 use Rattle.base.specs.Groups.{group_count}
 use Rattle.base.proofs.ListLaws.{by_order, length-build}
 use Rattle.dna.specs.Alignment.{position_after}
 use Rattle.format.specs.RuleRecord.{Candidate, Written, written}
-use Rattle.format.specs.RuleBlock.{code_of_letter, written_from}
+use Rattle.format.specs.RuleBlock.{written_from}
 use Rattle.format.specs.EncodeAnswer.{EncodeInput, reads_of_input, candidates_of}
-use Rattle.letter_packing.specs.Read.{codes_in}
+use Rattle.letter_packing.specs.Read.{codes_of}
 use Rattle.dna_writer.specs.Section.{codes_at, candidate_at, bytes_of, dna_bytes}
 use Rattle.dna_writer.specs.Writer.{records_from}
+use Rattle.dna_writer.specs.Reads.{input_of, record_at, records_after}
+use Rattle.dna_writer.specs.declared.lent.LentReads.{LentReads}
 use Rattle.dna_writer.proofs.SectionLaws.{records-step, length-dna_bytes}
 
 -- A list that is used up.
@@ -65,45 +66,30 @@ module _ (bases : ℕ) (reference : List ℕ) (input : EncodeInput) where
       (drop i (candidates_of input)))
       (drop_past i (reads_of_input input) (omega (arith, length_reads)))
 
-  -- The record of the read that lies from `from` to `to`.
-  abbrev pub record_of : (previous i from to : ℕ) → Written
-  record_of previous i from to =
-      written bases reference previous (codes_in input.letters from to) (candidate_at input i)
+  -- The record of read i, and those after it.
+  abbrev record_of : (previous i : ℕ) → Written
+  record_of previous i =
+      written bases reference previous (codes_at input i) (candidate_at input i)
 
-  module _ (previous i from to : ℕ) (inside : i < length input.ends)
-      (starts : from ≡ get_or (0 ∷ input.ends) i 0) (ends : to ≡ get_or input.ends i 0) where
-    read_codes : codes_in input.letters from to ≡ codes_at input i
-    unfolding codes_in
-    read_codes =
-        ap₂ (λ (f t : ℕ). map code_of_letter (part input.letters f (t - f))) starts ends
+  pub records_next : (previous i : ℕ) → i < length input.ends
+      → records previous i
+      ≡ record_of previous i
+      ∷ records
+      (position_after (record_of previous i).context (record_of previous i).stored.fields) (i + 1)
+  records_next previous i inside = records-step bases reference input previous i inside
 
-    pub records_next : records previous i
-        ≡ record_of previous i from to
-        ∷ records
-        (position_after (record_of previous i from to).context
-        (record_of previous i from to).stored.fields) (i + 1)
-    records_next =
-        records-step bases reference input previous i inside
-        ∙ ap (λ (codes : List ℕ).
-        written bases reference previous codes (candidate_at input i)
-        ∷ records
-        (position_after (written bases reference previous codes (candidate_at input i)).context
-        (written bases reference previous codes (candidate_at input i)).stored.fields) (i + 1))
-        (sym read_codes)
-
-    -- What the records take: this one, and those after it.
-    pub count_next : (after : ℕ)
-        → after ≡ position_after (record_of previous i from to).context
-        (record_of previous i from to).stored.fields
-        → length (flat_map bytes_of (records previous i))
-        ≡ length (bytes_of (record_of previous i from to))
-        + length (flat_map bytes_of (records after (i + 1)))
-    unfolding flat_map
-    count_next after is =
-        ap (λ (list : List Written). length (flat_map bytes_of list)) records_next
-        ∙ length-append (bytes_of (record_of previous i from to)) _
-        ∙ ap (λ (p : ℕ). length (bytes_of (record_of previous i from to))
-        + length (flat_map bytes_of (records p (i + 1)))) (sym is)
+  -- What the records take: this one, and those after it.
+  pub count_next : (previous i : ℕ) → i < length input.ends → (after : ℕ)
+      → after ≡ position_after (record_of previous i).context (record_of previous i).stored.fields
+      → length (flat_map bytes_of (records previous i))
+      ≡ length (bytes_of (record_of previous i))
+      + length (flat_map bytes_of (records after (i + 1)))
+  unfolding flat_map
+  count_next previous i inside after is =
+      ap (λ (list : List Written). length (flat_map bytes_of list)) (records_next previous i inside)
+      ∙ length-append (bytes_of (record_of previous i)) _
+      ∙ ap (λ (p : ℕ). length (bytes_of (record_of previous i))
+      + length (flat_map bytes_of (records p (i + 1)))) (sym is)
 
   pub count_end : (previous i : ℕ) → length input.ends ≤ i
       → length (flat_map bytes_of (records previous i)) ≡ 0
@@ -136,3 +122,24 @@ module _ (bases : ℕ) (reference : List ℕ) (input : EncodeInput) where
       ap (λ (n : ℕ). drop n (records start first)) (sym e)
       ∙ split
       ∙ ap (λ (n : ℕ). records previous (first + n)) e)
+
+-- The same of what the code holds.
+module _ (reads : LentReads) (previous i : ℕ) (inside : i < length reads.ends.now) where
+  pub lent_next : records_after reads previous i
+      ≡ record_at reads previous i
+      ∷ records_after reads
+      (position_after (record_at reads previous i).context
+      (record_at reads previous i).stored.fields) (i + 1)
+  unfolding codes_of
+  lent_next =
+      records_next reads.bases reads.reference.now (input_of reads) previous i inside
+
+  pub lent_count : (after : ℕ)
+      → after ≡ position_after (record_at reads previous i).context
+      (record_at reads previous i).stored.fields
+      → length (flat_map bytes_of (records_after reads previous i))
+      ≡ length (bytes_of (record_at reads previous i))
+      + length (flat_map bytes_of (records_after reads after (i + 1)))
+  unfolding codes_of
+  lent_count after is =
+      count_next reads.bases reads.reference.now (input_of reads) previous i inside after is

@@ -3,7 +3,7 @@ use mathlib.Core.Path.{◌≡◌, refl, sym, ap, ap₂, ◌∙◌}
 use Prim.Native.Nat.{ℕ, suc, ◌+◌, ◌≤◌, ◌<◌}
 use native.Mathlib.Omega.{arith}
 use mathlib.Core.List.{List, [], ◌∷◌}
-use lib.ListN.{length, get_or, take, drop, set, length-append, length-set}
+use lib.ListN.{length, get_or, take, drop, set, length-append}
 use Rattle.base.specs.Groups.{flag_byte}
 use Rattle.base.specs.Paste.{pasted}
 use Rattle.base.proofs.PasteLaws.{pasted_nil, pasted_append, pasted-apart, length_pasted}
@@ -77,10 +77,6 @@ module _ {goal : List ℕ} {limit : ℕ} {out : List ℕ} {place byte : ℕ} {le
 
       pub one_length : length one ≡ length out
       one_length = ap length put ∙ length_pasted out place group writing_room
-
-      pub turn_length : (new : List ℕ) → new ≡ set one byte (get_or one (place + 2) 0)
-          → length new ≡ length out
-      turn_length new stored = ap length stored ∙ length-set one byte _ ∙ one_length
 
       pub writing_turn : (new : List ℕ) (next after : ℕ) (rest : List Written)
           → new ≡ set one byte (get_or one (place + 2) 0) → next ≡ place + length group

@@ -1,3 +1,4 @@
 pub mod Lent
 pub mod Section
 pub mod Writer
+pub mod Reads

@@ -8,7 +8,6 @@
 #![tactic(auto)]
 
 mod differences;
-mod lines;
 mod refusals;
 mod show;
 

@@ -1,7 +1,6 @@
 // One case: reads are encoded, and the answer and the buffer are printed.
-use crate::lines::{end_line, put_bytes, put_number, put_text};
-use format::{BlockOutcome, EncodeOutcome};
-use integers::wide64;
+use case_text::print::{end_line, part, put_bytes, put_number, put_text};
+use dna::refusals::Refusal;
 use std::io;
 
 // What every lent byte holds before the call.
@@ -31,8 +30,8 @@ pub fn show(
         bases, reference, letters, ends, names, name_ends, positions, strands, lefts, rights, 7, 0,
         out,
     ) {
-        EncodeOutcome::Written(bytes) => put_block(rt, bases, reference, bytes, out)?,
-        EncodeOutcome::Refused(number) => put_refusal(rt, number, out)?,
+        Ok(bytes) => put_block(rt, bases, reference, bytes, out)?,
+        Err(refusal) => put_refusal(rt, refusal, out)?,
     }
     end_line(rt)
 }
@@ -47,49 +46,30 @@ fn put_block(
     put_text(rt, b": written")?;
     put_number(rt, bytes)?;
     put_text(rt, b", dna")?;
-    put_bytes(rt, first_bytes(ora::section(out, DNA_SECTION), 16))?;
+    put_bytes(rt, part(ora::section(out, DNA_SECTION), 0, 16))?;
     put_text(rt, b", read back")?;
     match ora::validate_block(bases, reference, out) {
-        BlockOutcome::Accepted(length, counts) => {
-            put_number(rt, length)?;
-            put_number(rt, counts.reads)?;
-            put_number(rt, counts.letters)?;
-            put_number(rt, counts.entries)?;
-            put_number(rt, counts.differences)?;
-            put_number(rt, counts.top)
+        Ok(block) => {
+            put_number(rt, block.bytes)?;
+            put_number(rt, block.counts.reads)?;
+            put_number(rt, block.counts.letters)?;
+            put_number(rt, block.counts.entries)?;
+            put_number(rt, block.counts.differences)?;
+            put_number(rt, block.counts.top)
         }
-        BlockOutcome::Refused(number, read) => {
+        Err(refused) => {
             put_text(rt, b" refused")?;
-            put_number(rt, wide64(number))?;
-            put_number(rt, read)
+            put_number(rt, u64::from(refused.refusal.number()))?;
+            put_number(rt, refused.read)
         }
     }
 }
 
-fn put_refusal(rt: &impl Print, number: u32, out: &[u8]) -> io::Result<()> {
+fn put_refusal(rt: &impl Print, refusal: Refusal, out: &[u8]) -> io::Result<()> {
     put_text(rt, b": refused")?;
-    put_number(rt, wide64(number))?;
-    if untouched(out) {
+    put_number(rt, u64::from(refusal.number()))?;
+    if out.iter().all(|byte| *byte == UNTOUCHED) {
         return put_text(rt, b", untouched");
     }
     put_text(rt, b", written to")
-}
-
-fn untouched(out: &[u8]) -> bool {
-    let mut i: usize = 0;
-    while i < out.len() {
-        if out[i] != UNTOUCHED {
-            return false;
-        }
-        i += 1;
-    }
-    true
-}
-
-// The first so many bytes: all of them where there are no more.
-fn first_bytes(bytes: &[u8], count: usize) -> &[u8] {
-    if bytes.len() < count {
-        return bytes;
-    }
-    &bytes[..count]
 }

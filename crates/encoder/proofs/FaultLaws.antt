@@ -8,7 +8,9 @@ use mathlib.Core.List.{List, [], ◌∷◌}
 use lib.ListN.{length, get_or, take, drop}
 use lib.Seq.{take-suc, drop-cons, drop-length}
 use lib.Dec.{ltb, eqb}
-use borrow.Author.Tests.{eq-eqb, ne_eqb}
+use borrow.Author.Tests.{eq-eqb, ne_eqb, eqb-true, eqb-false}
+use Rattle.std.specs.Int.{from_bool}
+use Rattle.base.proofs.ListLaws.{by_test}
 use Rattle.base.specs.Lists.{any, member, steps_from}
 use Rattle.base.proofs.Tests.{any_append}
 use Rattle.dna.specs.Reference.{alphabet}
@@ -29,6 +31,12 @@ larger-flags true true = refl
 larger-flags true false = refl
 larger-flags false true = refl
 larger-flags false false = refl
+
+-- A flag of two letters is 0 where they are equal.
+pub differs-flag : (a b : ℕ) → ◌≡◌ {A = ℕ} (from_bool (not (eqb a b))) (cond (eqb b a) 0 1)
+differs-flag a b =
+    by_test (eqb a b) (λ t. rw (t, eq-eqb b a (sym (eqb-true a b t))) refl)
+    (λ t. rw (t, ne_eqb b a (λ e. eqb-false a b t (sym e))) refl)
 
 or-false : (a : Bool) → a || false ≡ a
 or-false true = refl

@@ -1,8 +1,8 @@
-// The faults 2 to 8 of a header (01, Numbers of refusal). Each is a test that can be asked alone;
-// all but the first need the table to be there.
-ghost use Rattle.std.specs.Prelude.{◌≡◌, ◌≤◌, ◌<◌, length};
+// The faults 2 to 8 of a header (01, Numbers of refusal). Each is a test that can be asked alone.
+ghost use Rattle.std.specs.Prelude.{◌≡◌, ◌<◌};
 ghost use Rattle.base.specs.Answer.{first_number};
-ghost use Rattle.format.specs.Header.{table_length, flag_set};
+ghost use Rattle.dna.specs.Refused.{number_of};
+ghost use Rattle.format.specs.Header.{flag_set};
 ghost use Rattle.format.specs.HeaderFaults.{
   signed_below,
   signed_outside,
@@ -17,12 +17,9 @@ ghost use Rattle.format.specs.HeaderFaults.{
   header_faults,
 };
 
-use crate::fields::{TABLE_LENGTH, flags, l_header, magic, n_reads, signed_size, version};
-use crate::sections::block_length;
-use dna::refusals::{
-    FLAG_UNSUPPORTED, HEADER_LENGTH_TOO_SMALL, HEADER_TRUNCATED, MAGIC_WRONG,
-    READ_COUNT_OUT_OF_RANGE, SECTIONS_TRUNCATED, VERSION_UNSUPPORTED,
-};
+use crate::fields::signed_size;
+use crate::table::{TABLE_LENGTH, Table};
+use dna::refusals::Refusal;
 
 pub const MAGIC: u16 = 0x7c49;
 
@@ -44,105 +41,101 @@ pub const FALLBACK_FLAG: u32 = 0x40;
 // The sections are encrypted.
 pub const ENCRYPTED_FLAG: u32 = 0x80;
 
-// The first of 2 to 8 that the header earns, or 0.
-pub fn header_fault(input: &[u8]) -> u32
-    ensures { result ≡ first_number (header_faults input.now) }
+// The first of 2 to 8 that the header earns.
+pub fn header_fault(input: &[u8]) -> Result<(), Refusal>
+    ensures { number_of result ≡ first_number (header_faults input.now) }
 {
     if header_truncated(input) {
-        return HEADER_TRUNCATED;
+        return Err(Refusal::HeaderTruncated);
     }
-    table_fault(input, flag_unsupported(input))
+    let table = Table { input };
+    table.fault(table.flag_unsupported())
 }
 
-// The first of 3 to 8 that a table of contents earns, or 0; `unsupported` says whether its flags
-// earn 6.
-pub fn table_fault(input: &[u8], unsupported: bool) -> u32
-    requires { table_length ≤ length input.now }
-    ensures { result ≡ first_number (table_faults input.now unsupported) }
-{
-    if magic_wrong(input) {
-        return MAGIC_WRONG;
-    }
-    if version_unsupported(input) {
-        return VERSION_UNSUPPORTED;
-    }
-    if header_length_too_small(input) {
-        return HEADER_LENGTH_TOO_SMALL;
-    }
-    if unsupported {
-        return FLAG_UNSUPPORTED;
-    }
-    if read_count_out_of_range(input) {
-        return READ_COUNT_OUT_OF_RANGE;
-    }
-    if sections_truncated(input) {
-        return SECTIONS_TRUNCATED;
-    }
-    0
-}
-
+#[tactic(auto, unfolding(format::specs::HeaderFaults::header_truncated))]
 pub fn header_truncated(input: &[u8]) -> bool
     ensures { result ≡ header_truncated input.now }
 {
     input.len() < TABLE_LENGTH
 }
 
-pub fn magic_wrong(input: &[u8]) -> bool
-    requires { table_length ≤ length input.now }
-    ensures { result ≡ magic_wrong input.now }
-{
-    magic(input) != MAGIC
-}
-
-pub fn version_unsupported(input: &[u8]) -> bool
-    requires { table_length ≤ length input.now }
-    ensures { result ≡ version_unsupported input.now }
-{
-    let number = version(input);
-    if number < MIN_VERSION {
-        return true;
+impl<'a> Table<'a> {
+    // The first of 3 to 8 that a table of contents earns; `unsupported` says whether its flags earn 6.
+    #[tactic(auto, unfolding(dna::specs::Refused::number_of, dna::specs::Refused::refusal_number, base::specs::Answer::checked, format::specs::HeaderFaults::table_faults))]
+    pub fn fault(self, unsupported: bool) -> Result<(), Refusal>
+        ensures { number_of result ≡ first_number (table_faults self.entry.input.now unsupported) }
+    {
+        if self.magic_wrong() {
+            return Err(Refusal::MagicWrong);
+        }
+        if self.version_unsupported() {
+            return Err(Refusal::VersionUnsupported);
+        }
+        if self.header_length_too_small() {
+            return Err(Refusal::HeaderLengthTooSmall);
+        }
+        if unsupported {
+            return Err(Refusal::FlagUnsupported);
+        }
+        if self.read_count_out_of_range() {
+            return Err(Refusal::ReadCountOutOfRange);
+        }
+        if self.sections_truncated() {
+            return Err(Refusal::SectionsTruncated);
+        }
+        Ok(())
     }
-    MAX_VERSION < number
-}
 
-pub fn header_length_too_small(input: &[u8]) -> bool
-    requires { table_length ≤ length input.now }
-    ensures { result ≡ header_length_too_small input.now }
-{
-    is_below(TABLE_LENGTH, l_header(input))
-}
-
-pub fn flag_unsupported(input: &[u8]) -> bool
-    requires { table_length ≤ length input.now }
-    ensures { result ≡ flag_unsupported input.now }
-{
-    let flags = flags(input);
-    if flag_set(flags, FALLBACK_FLAG) {
-        return true;
+    #[tactic(auto, unfolding(format::specs::HeaderFaults::magic_wrong))]
+    pub fn magic_wrong(self) -> bool
+        ensures { result ≡ magic_wrong self.entry.input.now }
+    {
+        self.magic() != MAGIC
     }
-    flag_set(flags, ENCRYPTED_FLAG)
+
+    #[tactic(auto, unfolding(format::specs::HeaderFaults::version_unsupported))]
+    pub fn version_unsupported(self) -> bool
+        ensures { result ≡ version_unsupported self.entry.input.now }
+    {
+        let number = self.version();
+        number < MIN_VERSION || MAX_VERSION < number
+    }
+
+    pub fn header_length_too_small(self) -> bool
+        ensures { result ≡ header_length_too_small self.entry.input.now }
+    {
+        is_below(TABLE_LENGTH, self.l_header())
+    }
+
+    #[tactic(auto, unfolding(format::specs::HeaderFaults::flag_unsupported))]
+    pub fn flag_unsupported(self) -> bool
+        ensures { result ≡ flag_unsupported self.entry.input.now }
+    {
+        let flags = self.flags();
+        flag_set(flags, FALLBACK_FLAG) || flag_set(flags, ENCRYPTED_FLAG)
+    }
+
+    pub fn read_count_out_of_range(self) -> bool
+        ensures { result ≡ read_count_out_of_range self.entry.input.now }
+    {
+        is_outside(MAX_READS, self.n_reads())
+    }
+
+    #[tactic(auto, unfolding(format::specs::HeaderFaults::sections_truncated))]
+    pub fn sections_truncated(self) -> bool
+        ensures { result ≡ sections_truncated self.entry.input.now }
+    {
+        self.input.len() < self.block_length()
+    }
 }
 
 // Whether a flag, a power of 2, is set.
+#[tactic(auto, unfolding(format::specs::Header::flag_set))]
 pub fn flag_set(flags: u32, flag: u32) -> bool
     requires { 0 < flag }
     ensures { result ≡ flag_set flags flag }
 {
     flags / flag % 2 == 1
-}
-
-pub fn read_count_out_of_range(input: &[u8]) -> bool
-    requires { table_length ≤ length input.now }
-    ensures { result ≡ read_count_out_of_range input.now }
-{
-    is_outside(MAX_READS, n_reads(input))
-}
-
-pub fn sections_truncated(input: &[u8]) -> bool
-    requires { table_length ≤ length input.now }
-    ensures { result ≡ sections_truncated input.now }
-{
-    input.len() < block_length(input)
 }
 
 // Below a bound; so is every negative number.

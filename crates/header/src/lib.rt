@@ -7,4 +7,5 @@
 pub mod faults;
 pub mod fields;
 pub mod sections;
+pub mod table;
 pub mod writing;

@@ -13,7 +13,7 @@ ghost use Rattle.header.specs.WrittenHeader.{
 };
 
 use crate::faults::{MAGIC, MIN_VERSION};
-use crate::fields::TABLE_LENGTH;
+use crate::table::TABLE_LENGTH;
 use integers::{put_u16, put_u32, put_u64};
 
 // l_header, with no extra bytes.
@@ -43,56 +43,53 @@ pub fn put_header(out: &mut [u8], fields: VaryingFields)
     ensures { out.new
         ≡ pasted out.old 0 (header_bytes (header_with (fields_of fields))) }
 {
-    put_lengths(out, fields.l_dna, fields.l_names, fields.l_size, fields.l_n);
-    put_counts(
-        out,
-        fields.flags,
-        fields.l_read,
-        fields.n_reads,
-        fields.b_id,
-    );
-    put_raw_sizes(out, fields.l_dna_raw, fields.c_time);
+    put_lengths(out, fields);
+    put_counts(out, fields);
+    put_raw_sizes(out, fields);
 }
 
+// Each part takes the whole buffer and not an array of its bytes, since it is lent as a slice and
+// what is written is put together by `pasted`, part by part.
+
 // Bytes 0 to 41: the magic, l_header, and the lengths of the sections.
-fn put_lengths(out: &mut [u8], dna: u32, names: u32, sizes: u32, ns: u32)
+fn put_lengths(out: &mut [u8], fields: VaryingFields)
     requires { table_length ≤ length out.old }
     ensures { out.new
-        ≡ pasted out.old 0 (length_bytes dna names sizes ns) }
+        ≡ pasted out.old 0 (length_bytes fields.l_dna fields.l_names fields.l_size fields.l_n) }
 {
     put_u16(out, 0, MAGIC);
     put_u32(out, 2, HEADER_LENGTH);
-    put_u32(out, 6, dna);
-    put_u32(out, 10, names);
+    put_u32(out, 6, fields.l_dna);
+    put_u32(out, 10, fields.l_names);
     put_zeros(out, 14, 8);
-    put_u32(out, 22, sizes);
-    put_u32(out, 26, ns);
+    put_u32(out, 22, fields.l_size);
+    put_u32(out, 26, fields.l_n);
     put_zeros(out, 30, 12);
 }
 
 // Bytes 42 to 63: flags, l_read, n_reads, version and b_id.
-fn put_counts(out: &mut [u8], flags: u32, size: u32, count: u32, id: u64)
+fn put_counts(out: &mut [u8], fields: VaryingFields)
     requires { table_length ≤ length out.old }
     ensures { out.new
-        ≡ pasted out.old 42 (count_bytes flags size count id) }
+        ≡ pasted out.old 42 (count_bytes fields.flags fields.l_read fields.n_reads fields.b_id) }
 {
-    put_u32(out, 42, flags);
-    put_u32(out, 46, size);
-    put_u32(out, 50, count);
+    put_u32(out, 42, fields.flags);
+    put_u32(out, 46, fields.l_read);
+    put_u32(out, 50, fields.n_reads);
     put_u16(out, 54, MIN_VERSION);
-    put_u64(out, 56, id);
+    put_u64(out, 56, fields.b_id);
 }
 
 // Bytes 64 to 120: q_type, the raw sizes, c_time and the checksums.
-fn put_raw_sizes(out: &mut [u8], dna: u32, time: u64)
+fn put_raw_sizes(out: &mut [u8], fields: VaryingFields)
     requires { table_length ≤ length out.old }
-    ensures { out.new ≡ pasted out.old 64 (raw_bytes dna time) }
+    ensures { out.new ≡ pasted out.old 64 (raw_bytes fields.l_dna_raw fields.c_time) }
 {
     put_u32(out, 64, QUALITY_TYPE);
     put_zeros(out, 68, 5);
-    put_u32(out, 73, dna);
+    put_u32(out, 73, fields.l_dna_raw);
     put_zeros(out, 77, 12);
-    put_u64(out, 89, time);
+    put_u64(out, 89, fields.c_time);
     put_zeros(out, 97, 24);
 }
 
@@ -101,9 +98,5 @@ fn put_zeros(out: &mut [u8], at: usize, count: usize)
     requires { at + count ≤ length out.old }
     ensures { out.new ≡ pasted out.old at (zeros count) }
 {
-    let mut k: usize = 0;
-    while k < count {
-        out[at + k] = 0;
-        k += 1;
-    }
+    out[at..at + count].fill(0);
 }

@@ -12,7 +12,7 @@ use borrow.Author.Tests.{lt-ltb, le-ltb, eq-eqb, ne_eqb}
 use Rattle.base.specs.Lists.{total}
 use Rattle.base.proofs.Tests.{neither_or, or_right}
 use Rattle.dna.specs.Sizes.{max_read_length, length_invalid}
-use Rattle.lengths.specs.declared.LengthsSum.TheVariants as sums
+use Rattle.std.specs.Prelude.{Some, None}
 use Rattle.dna.specs.SizesAt.{fixed_lengths}
 use Rattle.lengths.specs.Given.{lengths_found, lengths_sum}
 use Rattle.lengths.proofs.CursorLaws.{fixed-found}
@@ -48,26 +48,26 @@ module _ (each n : ℕ) (section : List ℕ) where
       ∙ rw (e, f, g)
 
   pub fixed_filled : 0 < length section → lengths_sum (lengths_found (fixed_lengths each n section))
-      ≡ sums.Refused
+      ≡ None
   unfolding lengths_sum
   fixed_filled h = sum_tests true _ _ (lt-ltb 0 (length section) h) refl refl
 
   pub fixed_unread : length section ≤ 0 → n ≡ 0 → lengths_sum
-      (lengths_found (fixed_lengths each n section)) ≡ sums.Found 0
+      (lengths_found (fixed_lengths each n section)) ≡ Some 0
   unfolding lengths_sum total
   fixed_unread h z =
       sum_tests false false _ (le-ltb 0 (length section) h) (le-ltb 0 n (omega arith)) refl
-      ∙ ap (λ (m : ℕ). sums.Found (total (replicate m each))) z
+      ∙ ap (λ (m : ℕ). Some (total (replicate m each))) z
 
   pub fixed_invalid : length section ≤ 0 → 0 < n → length_invalid each ≡ true
-      → lengths_sum (lengths_found (fixed_lengths each n section)) ≡ sums.Refused
+      → lengths_sum (lengths_found (fixed_lengths each n section)) ≡ None
   unfolding lengths_sum
   fixed_invalid h more i =
       sum_tests false true true (le-ltb 0 (length section) h) (lt-ltb 0 n more) i
 
   pub fixed_valid : length section ≤ 0 → 0 < n → length_invalid each ≡ false
-      → lengths_sum (lengths_found (fixed_lengths each n section)) ≡ sums.Found (n * each)
+      → lengths_sum (lengths_found (fixed_lengths each n section)) ≡ Some (n * each)
   unfolding lengths_sum
   fixed_valid h more i =
       sum_tests false true false (le-ltb 0 (length section) h) (lt-ltb 0 n more) i
-      ∙ ap sums.Found (total_replicate n each)
+      ∙ ap Some (total_replicate n each)

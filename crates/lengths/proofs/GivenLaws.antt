@@ -12,20 +12,20 @@ use Rattle.base.specs.Lists.{total}
 use Rattle.base.specs.Answer.{Scan, found, refused, and_then, refused_as}
 use Rattle.base.proofs.ListLaws.{by_test}
 use Rattle.dna.specs.Walk.{of_read, Walk, refused_at}
-use Rattle.lengths.specs.declared.LengthsSum.TheVariants as sums
+use Rattle.std.specs.Prelude.{Some, None}
 use Rattle.lengths.specs.Given.{lengths_found, lengths_sum, lengths_number}
 
 -- ---- What a number says
 
 -- No lengths: 9.
-pub fault-lengths : (raw : ℕ) (lengths : Option (List ℕ)) → lengths_sum lengths ≡ sums.Refused
+pub fault-lengths : (raw : ℕ) (lengths : Option (List ℕ)) → lengths_sum lengths ≡ None
     → lengths_number raw lengths ≡ 9
 unfolding lengths_sum lengths_number
 fault-lengths raw none e = refl
 fault-lengths raw (some lengths) e = let z : ◌≡◌ {A = ℕ} 0 1 = cc in absurd (omega arith)
 
 -- The sum is the raw DNA size: 0.
-pub fault-none : (raw sum : ℕ) (lengths : Option (List ℕ)) → lengths_sum lengths ≡ sums.Found sum
+pub fault-none : (raw sum : ℕ) (lengths : Option (List ℕ)) → lengths_sum lengths ≡ Some sum
     → raw ≡ sum
     → lengths_number raw lengths ≡ 0
 unfolding lengths_sum lengths_number
@@ -35,7 +35,7 @@ fault-none raw sum (some lengths) e same =
     ap (λ (t : Bool). cond (not t) 10 0) (eq-eqb raw (total lengths) (omega arith))
 
 -- It is not: 10.
-pub fault-size : (raw sum : ℕ) (lengths : Option (List ℕ)) → lengths_sum lengths ≡ sums.Found sum
+pub fault-size : (raw sum : ℕ) (lengths : Option (List ℕ)) → lengths_sum lengths ≡ Some sum
     → (raw ≡ sum → ⊥)
     → lengths_number raw lengths ≡ 10
 unfolding lengths_sum lengths_number

@@ -14,8 +14,8 @@ use Rattle.base.proofs.ShiftLaws.{shifted, highest-shifted}
 use Rattle.dna.specs.Sizes.{StoredSize, length_invalid}
 use Rattle.dna.specs.SizesAt.{stored_at, stored_sizes_at}
 use Rattle.lengths.specs.declared.SizeCursor.{SizeCursor}
-use Rattle.lengths.specs.declared.LengthStep.{LengthStep}
-use Rattle.lengths.specs.declared.LengthStep.TheVariants as steps
+use Rattle.lengths.specs.Cursor.{LengthStep}
+use Rattle.std.specs.Prelude.{Some, None}
 use Rattle.lengths.specs.Cursor.{flags_taken, stored_length, stored_read, size_at, cursor_after}
 use Rattle.lengths.specs.Cursor.{length_or_refused, step_of_size, flagged_step, step_of_flags}
 use Rattle.lengths.specs.Cursor.{length_step, consed, on_step, lengths_left}
@@ -23,7 +23,7 @@ use Rattle.lengths.proofs.Collected.{collected, prefixed, collected-cons}
 
 -- A step whose length is judged.
 pub on-judged : (t : Bool) (size : ℕ) (cursor : SizeCursor) (rest : SizeCursor → Option (List ℕ))
-    → on_step (cond t steps.Refused (steps.Found size cursor)) rest ≡ cond t none
+    → on_step (cond t None (Some (size, cursor))) rest ≡ cond t none
     (consed size (rest cursor))
 unfolding on_step
 on-judged true size cursor rest = refl

@@ -13,11 +13,9 @@ use Rattle.base.specs.Lists.{total, AllBytes}
 use Rattle.base.specs.Answer.{found}
 use Rattle.dna.specs.SizesAt.{sizes_answer, lengths_given}
 use Rattle.lengths.specs.declared.SizeCursor.{SizeCursor}
-use Rattle.lengths.specs.declared.LengthStep.{LengthStep}
-use Rattle.lengths.specs.declared.LengthStep.TheVariants as steps
-use Rattle.lengths.specs.declared.LengthsSum.{LengthsSum}
-use Rattle.lengths.specs.declared.LengthsSum.TheVariants as sums
-use Rattle.lengths.specs.Given.{lengths_found, lengths_sum}
+use Rattle.lengths.specs.Cursor.{LengthStep}
+use Rattle.std.specs.Prelude.{Some, None}
+use Rattle.lengths.specs.Given.{LengthsSum, lengths_found, lengths_sum}
 use Rattle.lengths.specs.Cursor.{first_cursor, length_step, cursor_ended, consed, on_step}
 use Rattle.lengths.specs.Cursor.{lengths_left}
 use Rattle.lengths.proofs.CursorLaws.{lengths_left-first}
@@ -26,7 +24,7 @@ use Rattle.lengths.proofs.CursorLaws.{lengths_left-first}
 
 module _ (section : List ℕ) (cursor : SizeCursor) where
   -- A refused step: there are no lengths.
-  pub left_refused : (left : ℕ) → 0 < left → length_step section cursor ≡ steps.Refused
+  pub left_refused : (left : ℕ) → 0 < left → length_step section cursor ≡ None
       → lengths_left left section cursor ≡ none
   unfolding lengths_left on_step
   left_refused zero more e = absurd (not-suc-le-zero more)
@@ -34,7 +32,7 @@ module _ (section : List ℕ) (cursor : SizeCursor) where
 
   -- A step takes the head.
   pub left_found : (left size : ℕ) (next : SizeCursor) → 0 < left → length_step section cursor
-      ≡ steps.Found size next
+      ≡ Some (size, next)
       → lengths_left left section cursor ≡ consed size (lengths_left (left - 1) section next)
   unfolding lengths_left on_step
   left_found zero size next more e = absurd (not-suc-le-zero more)
@@ -64,10 +62,10 @@ step_count : (n : ℕ) (section : List ℕ) (step : LengthStep) (lengths : List 
     → length rest ≡ n)
     → on_step step (lengths_left n section) ≡ some lengths → length lengths ≡ suc n
 unfolding on_step
-step_count n section steps.Refused lengths ih e =
+step_count n section None lengths ih e =
     let z : ◌≡◌ {A = ℕ} 0 1 = cc in absurd (omega arith)
-step_count n section (steps.Found size cursor) lengths ih e =
-    consed-count size (lengths_left n section cursor) lengths n (ih cursor) e
+step_count n section (Some step) lengths ih e =
+    consed-count step.0 (lengths_left n section step.1) lengths n (ih step.1) e
 
 -- As many lengths as there are reads.
 pub left-count : (n : ℕ) (section : List ℕ) (cursor : SizeCursor) (lengths : List ℕ)
@@ -99,7 +97,7 @@ consed-some size (some rest) x xs e = (cc, cc)
 -- At read i of `lengths`: a step cannot be refused.
 pub next_not-refused : (section : List ℕ) (cursor : SizeCursor) (lengths : List ℕ) (n i : ℕ) → i < n
     → lengths_left (n - i) section cursor ≡ some (drop i lengths) → length_step section cursor
-    ≡ steps.Refused → ⊥
+    ≡ None → ⊥
 next_not-refused section cursor lengths n i more left e =
     let gone : lengths_left (n - i) section cursor ≡ none = left_refused section cursor (n - i)
     (omega arith) e in
@@ -110,7 +108,7 @@ next_not-refused section cursor lengths n i more left e =
 pub next-found : (section : List ℕ) (cursor : SizeCursor) (lengths : List ℕ) (n i size : ℕ)
     (next : SizeCursor) → i < n
     → n ≡ length lengths → lengths_left (n - i) section cursor ≡ some (drop i lengths)
-    → length_step section cursor ≡ steps.Found size next
+    → length_step section cursor ≡ Some (size, next)
     → (size ≡ get_or lengths i 0) ×
     (lengths_left (n - (i + 1)) section next ≡ some (drop (i + 1) lengths))
 next-found section cursor lengths n i size next more all left e =
@@ -132,19 +130,19 @@ next-found section cursor lengths n i size next more all left e =
 
 -- The sum of what is left, on top of what was read.
 unfoldable pub sum_left : (sum : ℕ) (lengths : Option (List ℕ)) → LengthsSum
-sum_left sum none = sums.Refused
-sum_left sum (some lengths) = sums.Found (sum + total lengths)
+sum_left sum none = None
+sum_left sum (some lengths) = Some (sum + total lengths)
 
 sum-whole : (lengths : Option (List ℕ)) → lengths_sum lengths ≡ sum_left 0 lengths
 unfolding lengths_sum sum_left
 sum-whole none = refl
-sum-whole (some lengths) = ap sums.Found (sym (zero-add (total lengths)))
+sum-whole (some lengths) = ap Some (sym (zero-add (total lengths)))
 
 sum-consed : (sum size : ℕ) (lengths : Option (List ℕ)) → sum_left sum (consed size lengths)
     ≡ sum_left (sum + size) lengths
 unfolding sum_left consed total
 sum-consed sum size none = refl
-sum-consed sum size (some lengths) = ap sums.Found (omega arith)
+sum-consed sum size (some lengths) = ap Some (omega arith)
 
 -- At the first read.
 pub sum_first : (section : List ℕ) (cursor : SizeCursor) (each n i : ℕ) → AllBytes section → i ≡ 0
@@ -160,13 +158,13 @@ sum_first section cursor each n i bytes z e =
     ∙ ap₂ (λ (k : ℕ) (c : SizeCursor). lengths_left k section c) (sym m) (sym e))
 
 module _ (section : List ℕ) (cursor : SizeCursor) (sum n i : ℕ) where
-  pub sum_refused : i < n → length_step section cursor ≡ steps.Refused
-      → sum_left sum (lengths_left (n - i) section cursor) ≡ sums.Refused
+  pub sum_refused : i < n → length_step section cursor ≡ None
+      → sum_left sum (lengths_left (n - i) section cursor) ≡ None
   unfolding sum_left
   sum_refused more e = ap (sum_left sum) (left_refused section cursor (n - i) (omega arith) e)
 
   pub sum_found : (size : ℕ) (next : SizeCursor) → i < n → length_step section cursor
-      ≡ steps.Found size next
+      ≡ Some (size, next)
       → sum_left sum (lengths_left (n - i) section cursor) ≡ sum_left (sum + size)
       (lengths_left (n - (i + 1)) section next)
   sum_found size next more e =
@@ -184,11 +182,11 @@ module _ (section : List ℕ) (cursor : SizeCursor) (sum n i : ℕ) where
       ∙ ap (λ (t : Bool). sum_left sum (cond t (some []) none)) e
 
   pub sum_ended : n ≤ i → cursor_ended section cursor ≡ true
-      → sum_left sum (lengths_left (n - i) section cursor) ≡ sums.Found sum
+      → sum_left sum (lengths_left (n - i) section cursor) ≡ Some sum
   unfolding sum_left total
-  sum_ended done e = sum_last true done e ∙ ap sums.Found (add-zero sum)
+  sum_ended done e = sum_last true done e ∙ ap Some (add-zero sum)
 
   pub sum_unended : n ≤ i → cursor_ended section cursor ≡ false
-      → sum_left sum (lengths_left (n - i) section cursor) ≡ sums.Refused
+      → sum_left sum (lengths_left (n - i) section cursor) ≡ None
   unfolding sum_left
   sum_unended done e = sum_last false done e

@@ -11,25 +11,23 @@ use Rattle.base.specs.Lists.{any}
 use Rattle.base.specs.Numbers.{le}
 use Rattle.base.specs.Faults.{Fault}
 use Rattle.base.specs.Answer.{Scan, found, refused, checked, and_then}
-use Rattle.base.proofs.ListLaws.{by_order}
 use Rattle.base.proofs.Tests.{or_right, neither_or}
 use Rattle.base.proofs.AnswerLaws.{checked_into, cond_yes, cond_no}
 use Rattle.dna.specs.Varint16At.{varint16_at}
-use Rattle.lengths.specs.declared.SizeRead.{SizeRead}
-use Rattle.lengths.specs.declared.SizeRead.TheVariants as reads
-use Rattle.lengths.specs.Cursor.{words_read}
+use Rattle.std.specs.Prelude.{Some, None}
+use Rattle.lengths.specs.Cursor.{SizeRead, words_read}
 
 read-checked : (sum : ℕ) (faults : List Fault) (scan : Scan ℕ)
-    → words_read sum (checked refused faults scan) ≡ cond (any (λ f. f.fits) faults) reads.Refused
+    → words_read sum (checked refused faults scan) ≡ cond (any (λ f. f.fits) faults) None
     (words_read sum scan)
 unfolding words_read
-read-checked sum faults scan = checked_into (words_read sum) (λ n. n) reads.Refused (λ n. refl) faults scan
+read-checked sum faults scan = checked_into (words_read sum) (λ n. n) None (λ n. refl) faults scan
 
 read_more : (sum : ℕ) (scan : Scan ℕ)
     → words_read sum (and_then scan (λ more next. found (32768 + more) next)) ≡ words_read
     (sum + 32768) scan
 unfolding words_read and_then
-read_more sum (found more next) = ap (λ (size : ℕ). reads.Found size next) (omega arith)
+read_more sum (found more next) = ap (λ (size : ℕ). Some (size, next)) (omega arith)
 read_more sum (refused number) = refl
 
 or_left : (s t : Bool) → s ≡ true → s || t ≡ true
@@ -48,7 +46,7 @@ module _ (section : List ℕ) (at : ℕ) where
   words_faulty : (words sum : ℕ)
       → ltb (length section) (at + 2)
       || (ltb 32768 (le 2 section at) || (leb 100_001 (sum + le 2 section at) || false)) ≡ true
-      → words_read sum (varint16_at words 100_001 sum section at) ≡ reads.Refused
+      → words_read sum (varint16_at words 100_001 sum section at) ≡ None
   unfolding varint16_at any words_read
   words_faulty zero sum fits = refl
   words_faulty (suc words) sum fits =
@@ -73,20 +71,20 @@ module _ (section : List ℕ) (at : ℕ) where
 
   -- The section ends before the word does.
   pub words_cut : (sum : ℕ) → ltb (length section) (at + 2) ≡ true → rest_of_words section at sum
-      ≡ reads.Refused
+      ≡ None
   words_cut sum cut =
       words_faulty (words_left sum) sum (or_left (ltb (length section) (at + 2)) _ cut)
 
   module _ (sum word : ℕ) (is : word ≡ le 2 section at) where
     -- A word above 32768.
-    pub words_large : 32768 < word → rest_of_words section at sum ≡ reads.Refused
+    pub words_large : 32768 < word → rest_of_words section at sum ≡ None
     words_large large =
         words_faulty (words_left sum) sum
         (or_right (ltb (length section) (at + 2)) _
         (or_left (ltb 32768 (le 2 section at)) _ (lt-ltb 32768 (le 2 section at) (omega arith))))
 
     -- A length above 100,000.
-    pub words_outside : 100_000 < sum + word → rest_of_words section at sum ≡ reads.Refused
+    pub words_outside : 100_000 < sum + word → rest_of_words section at sum ≡ None
     words_outside outside =
         words_faulty (words_left sum) sum
         (or_right (ltb (length section) (at + 2)) _
@@ -96,14 +94,14 @@ module _ (section : List ℕ) (at : ℕ) where
 
     -- The last word.
     pub words_last : at + 2 ≤ length section → word < 32768 → sum + word ≤ 100_000
-        → rest_of_words section at sum ≡ reads.Found (sum + word) (at + 2)
+        → rest_of_words section at sum ≡ Some (sum + word, at + 2)
     unfolding words_read
     words_last whole small inside =
         let e : words_left sum ≡ suc (words_left sum - 1) = omega arith in
         ap (λ (n : ℕ). words_read sum (varint16_at n 100_001 sum section at)) e
         ∙ words_sound (words_left sum - 1) sum whole (omega arith) (omega arith)
         ∙ ap (words_read sum) (cond_no _ (ne_eqb (le 2 section at) 32768 (omega arith)) refl)
-        ∙ ap (λ (w : ℕ). reads.Found (sum + w) (at + 2)) (sym is)
+        ∙ ap (λ (w : ℕ). Some (sum + w, at + 2)) (sym is)
 
     -- A word that says that another follows.
     pub words_more : at + 2 ≤ length section → 32768 ≤ word → word ≤ 32768 → sum + word ≤ 100_000
@@ -124,10 +122,3 @@ module _ (section : List ℕ) (at : ℕ) where
         ∙ ap (λ (w : ℕ). words_read (sum + w)
         (varint16_at (words_left (sum + word)) 100_001 (sum + word) section (at + 2)))
         (sym full)
-
--- Whether two bytes at `at` are cut by the end of a list of `size` bytes.
-pub cut_far : (size at : ℕ) → 2 ≤ size → ltb (size - 2) at ≡ ltb size (at + 2)
-cut_far size at h =
-    by_order (size - 2) at
-    (λ l. lt-ltb (size - 2) at l ∙ sym (lt-ltb size (at + 2) (omega arith)))
-    (λ l. le-ltb (size - 2) at l ∙ sym (le-ltb size (at + 2) (omega arith)))

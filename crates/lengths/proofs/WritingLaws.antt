@@ -5,7 +5,7 @@ use native.Mathlib.Numerals.{add-one}
 use native.Mathlib.Omega.{arith}
 use mathlib.Core.List.{List, [], ◌∷◌, ◌++◌, flat_map, append_assoc}
 use lib.ListN.{length, get_or, take, drop, length-take, length-drop, length-append}
-use lib.Seq.{drop-cons, drop-drop, drop_at, take-take, take-append-le, length-take-le}
+use lib.Seq.{drop-cons, drop-drop, drop_at, take-take, take-append-le, length-take-le, get_or-take, get_or-drop}
 use Rattle.base.specs.Lists.{part, total}
 use Rattle.base.specs.Groups.{group_count}
 use Rattle.base.specs.Numbers.{le_bytes}
@@ -16,7 +16,8 @@ use Rattle.dna.specs.Sizes.{StoredSize, in_words, is_same, is_in_byte, stored_by
 use Rattle.dna.specs.Sizes.{size_section_bytes}
 use Rattle.dna.proofs.SizeBytesLaws.{size_section-nil, size_section-cons, stored_total}
 use Rattle.dna.proofs.SizeBytesLaws.{length_size_section}
-use Rattle.lengths.specs.Form.{stored_of, stored_after, no_length}
+use Rattle.std.specs.Prelude.{Option}
+use Rattle.lengths.specs.Form.{stored_of, stored_after}
 use Rattle.lengths.proofs.FormLaws.{length-stored_of, part_at, Behind, behind_stored}
 
 -- A list that is used up.
@@ -38,6 +39,18 @@ length-group ends from =
     length-take 8 (drop from (stored_of ends))
     ∙ ap (min 8)
     (length-drop from (stored_of ends) ∙ ap (λ (n : ℕ). n - from) (length-stored_of ends))
+
+-- The ends of the reads of a group, lent as a slice.
+module _ (ends : List ℕ) (from reads : ℕ) (all : reads ≡ min 8 (length ends - from)) where
+  pub length-lent : length (take (from + reads - from) (drop from ends)) ≡ reads
+  length-lent =
+      omega
+      (arith, all, length-take (from + reads - from) (drop from ends), length-drop from ends)
+
+  pub lent_at : (k : ℕ) → k < reads
+      → get_or (take (from + reads - from) (drop from ends)) k 0 ≡ get_or ends (from + k) 0
+  lent_at k h =
+      get_or-take (from + reads - from) (drop from ends) k 0 (omega arith) ∙ get_or-drop from ends k 0
 
 module _ (ends : List ℕ) (from k : ℕ) (inside : k < min 8 (length ends - from))
     (stored : StoredSize) (is : stored ≡ get_or (stored_of ends) (from + k) (in_words 0)) where
@@ -125,13 +138,14 @@ module _ (ends : List ℕ) (from : ℕ) (inside : from < length ends) where
         pasting_room writing (size_group_bytes (part (stored_of ends) from 8))
         (size_section_bytes (drop (from + 8) (stored_of ends))) section_split
 
-    pub section_turn : (out' : List ℕ) (place' : ℕ) → out' ≡ pasted out place
+    pub section_turn : (out' : List ℕ) (place' after : ℕ) → after ≡ from + 8 → out' ≡ pasted out place
         (size_group_bytes (part (stored_of ends) from 8))
         → place' ≡ place + length (size_group_bytes (part (stored_of ends) from 8))
-        → Pasting goal end out' place' (size_section_bytes (drop (from + 8) (stored_of ends)))
-    section_turn out' place' written there =
-        pasting_turn writing (size_group_bytes (part (stored_of ends) from 8))
-        (size_section_bytes (drop (from + 8) (stored_of ends))) out' place' section_split written there
+        → Pasting goal end out' place' (size_section_bytes (drop after (stored_of ends)))
+    section_turn out' place' after next written there =
+        rw next
+        (pasting_turn writing (size_group_bytes (part (stored_of ends) from 8))
+        (size_section_bytes (drop (from + 8) (stored_of ends))) out' place' section_split written there)
 
 pub section_end : (ends : List ℕ) (from : ℕ) {goal : List ℕ} {end : ℕ} {out : List ℕ} {place : ℕ}
     → length ends ≤ from
@@ -155,17 +169,17 @@ count-start ends sum is =
     omega (arith, length_size_section (stored_of ends))
 
 -- One read, after one whose end and length are known.
-pub count-read : (ends : List ℕ) (i before previous end size : ℕ) → i < length ends
-    → Behind ends i before previous → end ≡ get_or ends i 0 → size ≡ end - before → end < no_length
+pub count-read : (ends : List ℕ) (i before : ℕ) (previous : Option ℕ) (end size : ℕ) → i < length ends
+    → Behind ends i before previous → end ≡ get_or ends i 0 → size ≡ end - before
     → stored_total (drop i (stored_of ends))
     ≡ length (stored_bytes (stored_after previous size)) + stored_total (drop (i + 1) (stored_of ends))
 unfolding total
-count-read ends i before previous end size inside behind there is small =
+count-read ends i before previous end size inside behind there is =
     let all : List StoredSize = stored_of ends in
     ap stored_total (drop-cons all i (in_words 0) (omega (arith, length-stored_of ends)))
     ∙ ap₂ (λ (n j : ℕ). n + stored_total (drop j all))
     (ap (λ (s : StoredSize). length (stored_bytes s))
-    (sym (behind_stored ends i before previous end size inside behind there is small)))
+    (sym (behind_stored ends i before previous end size inside behind there is)))
     (sym (add-one i))
 
 pub count_end : (ends : List ℕ) (i : ℕ) → length ends ≤ i → stored_total (drop i (stored_of ends)) ≡ 0

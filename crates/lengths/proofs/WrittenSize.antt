@@ -8,11 +8,12 @@ use Rattle.base.specs.Paste.{pasted}
 use Rattle.base.proofs.PasteLaws.{pasted_nil, set_pasted}
 use Rattle.dna.specs.Varint16.{varint16_bytes}
 use Rattle.dna.specs.Sizes.{StoredSize, same, in_byte, in_words, is_same, is_in_byte, stored_bytes}
+use Rattle.std.specs.Prelude.{Option, Some}
 use Rattle.lengths.specs.declared.write.GroupWriter.{GroupWriter}
 use Rattle.lengths.specs.Form.{stored_after, flag_bits, writer_after}
 use Rattle.lengths.proofs.FormLaws.{after_same, after_byte, after_words}
 
-module _ (previous size : ℕ) (writer : GroupWriter) (buffer : List ℕ) where
+module _ (previous : Option ℕ) (size : ℕ) (writer : GroupWriter) (buffer : List ℕ) where
   -- What is known of the stored size is known of what is written.
   written_as_lem : (stored : StoredSize) (out : List ℕ) (place flags : ℕ)
       → stored_after previous size ≡ stored
@@ -28,7 +29,7 @@ module _ (previous size : ℕ) (writer : GroupWriter) (buffer : List ℕ) where
         ∙ ap (writer_after writer) (sym is),
   )
 
-  pub write_same : size ≡ previous
+  pub write_same : previous ≡ Some size
       → (buffer ≡ pasted buffer writer.place (stored_bytes (stored_after previous size)))
       × (record { place = writer.place; flags = writer.flags * 2 + 1 }
       ≡ writer_after writer (stored_after previous size))
@@ -37,7 +38,7 @@ module _ (previous size : ℕ) (writer : GroupWriter) (buffer : List ℕ) where
       written_as_lem same buffer writer.place (writer.flags * 2 + 1) (after_same previous size e)
       (sym (pasted_nil buffer writer.place)) (omega arith) refl
 
-  module _ (other : size ≡ previous → ⊥) where
+  module _ (other : previous ≡ Some size → ⊥) where
     pub write_byte : size < 256 → writer.place < length buffer
         → (set buffer writer.place size
         ≡ pasted buffer writer.place (stored_bytes (stored_after previous size)))

@@ -1,18 +1,14 @@
 -- The lengths read by read, from a cursor on. The cursor holds the flag bytes of the group, shifted
 -- so that the bit of the next read is the highest. Laws join it to specs/SizesAt.antt of dna.
 use Rattle.std.specs.Prelude.{ℕ, zero, suc, ◌+◌, ◌*◌, ◌%◌, Bool, cond, not, ◌&&◌, List, [], ◌∷◌, length, get_or, leb, ltb, eqb}
+use Rattle.std.specs.Prelude as std
+use Rattle.std.specs.Prelude.{Some, None}
 use Rattle.std.proofs.Math.Option.{Option, none, some}
 use Rattle.base.specs.Answer.{Scan, found, refused}
 use Rattle.dna.specs.Sizes.{max_read_length, StoredSize, same, in_byte, in_words, length_invalid}
 use Rattle.dna.specs.Varint16At.{varint16_at, words_for}
 use Rattle.dna.specs.SizesAt.{stored_at}
 use Rattle.lengths.specs.declared.SizeCursor.{SizeCursor}
-use Rattle.lengths.specs.declared.FlagStep.{FlagStep}
-use Rattle.lengths.specs.declared.FlagStep.TheVariants as flags
-use Rattle.lengths.specs.declared.SizeRead.{SizeRead}
-use Rattle.lengths.specs.declared.SizeRead.TheVariants as reads
-use Rattle.lengths.specs.declared.LengthStep.{LengthStep}
-use Rattle.lengths.specs.declared.LengthStep.TheVariants as steps
 
 -- The cursor at the first read; with flag 0x1 each length is l_read, here as a count.
 unfoldable pub first_cursor : (fixed : Bool) (each : ℕ) → SizeCursor
@@ -26,12 +22,25 @@ first_cursor fixed each =
       sizes = 0;
     }
 
+-- A cursor that holds the flag bytes of its group; none where the section ends before them.
+abbrev pub FlagStep : Type 0
+FlagStep = std.Option SizeCursor
+
+-- A stored length and the byte after it; none where both bits are set, the section ends too soon,
+-- or a word or the length is too large.
+abbrev pub SizeRead : Type 0
+SizeRead = std.Option (ℕ × ℕ)
+
+-- The length of a read, and the cursor at the next read; none is refusal 9.
+abbrev pub LengthStep : Type 0
+LengthStep = std.Option (ℕ × SizeCursor)
+
 -- At the start of a group its two flag bytes are taken.
 unfoldable pub flags_taken : (section : List ℕ) (cursor : SizeCursor) → FlagStep
 flags_taken section cursor =
     cond (eqb (cursor.place % 8) 0)
-    (cond (ltb (length section) (cursor.at + 2)) flags.Refused
-    (flags.Found
+    (cond (ltb (length section) (cursor.at + 2)) None
+    (Some
     (record {
       fixed = cursor.fixed;
       at = cursor.at + 2;
@@ -40,7 +49,7 @@ flags_taken section cursor =
       same = get_or section cursor.at 0;
       sizes = get_or section (cursor.at + 1) 0;
     })))
-    (flags.Found cursor)
+    (Some cursor)
 
 -- The length of a stored size, after one of `previous` letters.
 unfoldable pub stored_length : (previous : ℕ) (stored : StoredSize) → ℕ
@@ -50,8 +59,8 @@ stored_length previous (in_words size) = size
 
 -- The length that a scan found, on top of `sum`.
 unfoldable pub words_read : (sum : ℕ) (scan : Scan ℕ) → SizeRead
-words_read sum (found size next) = reads.Found (sum + size) next
-words_read sum (refused number) = reads.Refused
+words_read sum (found size next) = Some (sum + size, next)
+words_read sum (refused number) = None
 
 -- A length in words.
 unfoldable pub words_from : (section : List ℕ) (at : ℕ) → SizeRead
@@ -60,8 +69,8 @@ words_from section at =
 
 -- The length that a scan of a stored size found.
 unfoldable pub stored_read : (previous : ℕ) (scan : Scan StoredSize) → SizeRead
-stored_read previous (found stored next) = reads.Found (stored_length previous stored) next
-stored_read previous (refused number) = reads.Refused
+stored_read previous (found stored next) = Some (stored_length previous stored, next)
+stored_read previous (refused number) = None
 
 -- The length at a cursor that holds its flag bytes.
 unfoldable pub size_at : (section : List ℕ) (cursor : SizeCursor) → SizeRead
@@ -83,19 +92,20 @@ cursor_after cursor size next =
 
 -- A length, unless it is 0 or above 100,000.
 unfoldable pub length_or_refused : (size : ℕ) (cursor : SizeCursor) → LengthStep
-length_or_refused size cursor = cond (length_invalid size) steps.Refused (steps.Found size cursor)
+length_or_refused size cursor = cond (length_invalid size) None (Some (size, cursor))
 
 unfoldable pub step_of_size : (cursor : SizeCursor) (read : SizeRead) → LengthStep
-step_of_size cursor (reads.Found size next) = length_or_refused size (cursor_after cursor size next)
-step_of_size cursor reads.Refused = steps.Refused
+step_of_size cursor (Some read) =
+    length_or_refused read.0 (cursor_after cursor read.0 read.1)
+step_of_size cursor None = None
 
 -- The step of a cursor that holds its flag bytes.
 unfoldable pub flagged_step : (section : List ℕ) (cursor : SizeCursor) → LengthStep
 flagged_step section cursor = step_of_size cursor (size_at section cursor)
 
 unfoldable pub step_of_flags : (section : List ℕ) (taken : FlagStep) → LengthStep
-step_of_flags section (flags.Found cursor) = flagged_step section cursor
-step_of_flags section flags.Refused = steps.Refused
+step_of_flags section (Some cursor) = flagged_step section cursor
+step_of_flags section None = None
 
 -- The length of the next read, and the cursor after it.
 unfoldable pub length_step : (section : List ℕ) (cursor : SizeCursor) → LengthStep
@@ -113,8 +123,8 @@ consed size none = none
 consed size (some rest) = some (size ∷ rest)
 
 unfoldable pub on_step : (step : LengthStep) (rest : SizeCursor → Option (List ℕ)) → Option (List ℕ)
-on_step (steps.Found size cursor) rest = consed size (rest cursor)
-on_step steps.Refused rest = none
+on_step (Some step) rest = consed step.0 (rest step.1)
+on_step None rest = none
 
 -- The lengths of the `left` reads that are still to come, with nothing after them.
 unfoldable pub lengths_left : (left : ℕ) (section : List ℕ) (cursor : SizeCursor) → Option (List ℕ)

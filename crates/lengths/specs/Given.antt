@@ -3,18 +3,22 @@ use Rattle.std.specs.Prelude.{ℕ, cond, not, List, eqb}
 use Rattle.std.proofs.Math.Option.{Option, none, some}
 use Rattle.base.specs.Lists.{total}
 use Rattle.base.specs.Answer.{Scan, found, refused}
-use Rattle.lengths.specs.declared.LengthsSum.{LengthsSum}
-use Rattle.lengths.specs.declared.LengthsSum.TheVariants as sum
+use Rattle.std.specs.Prelude as std
+use Rattle.std.specs.Prelude.{Some, None}
 
 -- The list, whatever number a refusal has: each is 9.
 unfoldable pub lengths_found : (lengths : Scan (List ℕ)) → Option (List ℕ)
 lengths_found (found lengths next) = some lengths
 lengths_found (refused number) = none
 
+-- The sum of the lengths of all reads; none where there are no lengths.
+abbrev pub LengthsSum : Type 0
+LengthsSum = std.Option ℕ
+
 -- The sum of the lengths.
 unfoldable pub lengths_sum : (lengths : Option (List ℕ)) → LengthsSum
-lengths_sum (some lengths) = sum.Found (total lengths)
-lengths_sum none = sum.Refused
+lengths_sum (some lengths) = Some (total lengths)
+lengths_sum none = None
 
 -- 9 where there are no lengths, 10 where the raw DNA size is not their sum, else 0.
 unfoldable pub lengths_number : (raw : ℕ) (lengths : Option (List ℕ)) → ℕ

@@ -5,6 +5,7 @@
 
 ghost use Rattle.std.specs.Prelude.{◌≡◌, cond, ◌+◌, length, ltb};
 ghost use Rattle.base.specs.Numbers.{non_negative};
+ghost use Rattle.dna.specs.Refused.{number_of};
 ghost use Rattle.dna.specs.SizesAt.{sizes_answer, fixed_lengths, lengths_given};
 ghost use Rattle.lengths.specs.Given.{
   lengths_found,
@@ -21,7 +22,7 @@ ghost use Rattle.lengths.specs.Cursor.{
   cursor_ended,
 };
 
-use dna::refusals::{DNA_SIZE_WRONG, LENGTHS_INVALID};
+use dna::refusals::Refusal;
 use varint16::WORD_ESCAPE;
 
 // The lengths of a block.
@@ -49,47 +50,17 @@ pub struct SizeCursor {
     pub fixed: bool,
 }
 
-// A cursor that holds the flag bytes of its group.
-#[derive(Clone, Copy)]
-pub enum FlagStep {
-    Found(SizeCursor),
-    // The section ends before them.
-    Refused,
-}
-
-// A stored length and the byte after it.
-#[derive(Clone, Copy)]
-pub enum SizeRead {
-    Found(u32, usize),
-    // Both bits are set, the section ends too soon, or a word or the length is too large.
-    Refused,
-}
-
-// The length of a read, and the cursor at the next read.
-#[derive(Clone, Copy)]
-pub enum LengthStep {
-    Found(u32, SizeCursor),
-    // Refusal 9.
-    Refused,
-}
-
-// The sum of the lengths of all reads.
-#[derive(Clone, Copy)]
-pub enum LengthsSum {
-    Found(u64),
-    // Refusal 9.
-    Refused,
-}
-
 // ---- One length after the other
 
-// The cursor at the first read. With flag 0x1, `fixed`, each length is l_read, here `each`.
+// The cursor at the first read. With flag 0x1, `fixed`, each length is l_read, here `each`. Both are
+// fields of the table of contents, as the definition `lengths_given` takes them, and l_read is there
+// without the flag too: an Option in their place would only be made to be taken apart.
 pub fn first_cursor(fixed: bool, each: i32) -> SizeCursor
     ensures { result ≡ first_cursor fixed (non_negative each) }
 {
     let size = integers::non_negative(each);
     SizeCursor {
-        fixed: fixed,
+        fixed,
         at: 0,
         place: 0,
         previous: first_previous(fixed, size),
@@ -98,19 +69,15 @@ pub fn first_cursor(fixed: bool, each: i32) -> SizeCursor
     }
 }
 
-// The length of the next read, and the cursor after it.
-pub fn next_length(section: &[u8], cursor: SizeCursor) -> LengthStep
+// The length of the next read, and the cursor after it; none is refusal 9.
+pub fn next_length(section: &[u8], cursor: SizeCursor) -> Option<(u32, SizeCursor)>
     ensures { result ≡ length_step section.now cursor }
 {
     if cursor.fixed {
         return length_or_refused(cursor.previous, cursor);
     }
-    let FlagStep::Found(flagged) = take_flags(section, cursor) else {
-        return LengthStep::Refused;
-    };
-    let SizeRead::Found(size, next) = read_size(section, flagged) else {
-        return LengthStep::Refused;
-    };
+    let flagged = take_flags(section, cursor)?;
+    let (size, next) = read_size(section, flagged)?;
     length_or_refused(
         size,
         SizeCursor {
@@ -125,6 +92,7 @@ pub fn next_length(section: &[u8], cursor: SizeCursor) -> LengthStep
 }
 
 // Whether all of the section is used, and no bit is left past the last read.
+#[tactic(auto, unfolding(crate::specs::Cursor::cursor_ended))]
 pub fn cursor_ended(section: &[u8], cursor: SizeCursor) -> bool
     ensures { result ≡ cursor_ended section.now cursor }
 {
@@ -139,23 +107,30 @@ pub fn cursor_ended(section: &[u8], cursor: SizeCursor) -> bool
 
 // ---- All lengths
 
-// 9 or 10, or 0 where neither fits: flag 0x1, l_read, n_reads, the raw DNA size, the size section.
-pub fn lengths_fault(section: &[u8], fixed: bool, each: i32, reads: u32, raw: u32) -> u32
-    ensures { result ≡ lengths_number raw
+// The first of 9 and 10 that fits: flag 0x1, l_read, n_reads, the raw DNA size, the size section.
+pub fn lengths_fault(
+    section: &[u8],
+    fixed: bool,
+    each: i32,
+    reads: u32,
+    raw: u32,
+) -> Result<(), Refusal>
+    ensures { number_of result ≡ lengths_number raw
         (lengths_found (lengths_given fixed (non_negative each) reads section.now)) }
 {
     let size = integers::non_negative(each);
-    let LengthsSum::Found(sum) = lengths_sum(section, fixed, size, reads) else {
-        return LENGTHS_INVALID;
+    let Some(sum) = lengths_sum(section, fixed, size, reads) else {
+        return Err(Refusal::LengthsInvalid);
     };
-    if integers::wide64(raw) == sum {
-        return 0;
+    if u64::from(raw) == sum {
+        return Ok(());
     }
-    DNA_SIZE_WRONG
+    Err(Refusal::DnaSizeWrong)
 }
 
-// The sum of the lengths of all reads; l_read as a count.
-pub fn lengths_sum(section: &[u8], fixed: bool, each: u32, reads: u32) -> LengthsSum
+// The sum of the lengths of all reads, l_read as a count; none is refusal 9.
+#[tactic(auto, unfolding(dna::specs::SizesAt::lengths_given))]
+pub fn lengths_sum(section: &[u8], fixed: bool, each: u32, reads: u32) -> Option<u64>
     ensures { result ≡ lengths_sum
         (lengths_found (lengths_given fixed each reads section.now)) }
 {
@@ -166,60 +141,58 @@ pub fn lengths_sum(section: &[u8], fixed: bool, each: u32, reads: u32) -> Length
 }
 
 // The sum with flag 0x1.
-fn fixed_sum(section: &[u8], each: u32, reads: u32) -> LengthsSum
+fn fixed_sum(section: &[u8], each: u32, reads: u32) -> Option<u64>
     ensures { result ≡ lengths_sum
         (lengths_found (fixed_lengths each reads section.now)) }
 {
     if 0 < section.len() {
-        return LengthsSum::Refused;
+        return None;
     }
     if reads == 0 {
-        return LengthsSum::Found(0);
+        return Some(0);
     }
     if each == 0 {
-        return LengthsSum::Refused;
+        return None;
     }
     if MAX_READ_LENGTH < each {
-        return LengthsSum::Refused;
+        return None;
     }
-    LengthsSum::Found(integers::wide64(reads) * integers::wide64(each))
+    Some(u64::from(reads) * u64::from(each))
 }
 
 // The sum of what the section stores.
-fn section_sum(section: &[u8], reads: u32) -> LengthsSum
+fn section_sum(section: &[u8], reads: u32) -> Option<u64>
     ensures { result ≡ lengths_sum (lengths_found (sizes_answer reads section.now)) }
 {
     let mut cursor = first_cursor(false, 0);
     let mut sum: u64 = 0;
-    let mut i: u32 = 0;
-    while i < reads {
-        let LengthStep::Found(size, next) = next_length(section, cursor) else {
-            return LengthsSum::Refused;
-        };
-        sum += integers::wide64(size);
+    for _read in 0..reads {
+        let (size, next) = next_length(section, cursor)?;
+        sum += u64::from(size);
         cursor = next;
-        i += 1;
     }
     if cursor_ended(section, cursor) {
-        return LengthsSum::Found(sum);
+        return Some(sum);
     }
-    LengthsSum::Refused
+    None
 }
 
 // ---- Parts of a step
 
-// The two flag bytes, at the start of a group.
-fn take_flags(section: &[u8], cursor: SizeCursor) -> FlagStep
+// The cursor with the flag bytes of its group, which are taken at the group's start; none where the
+// section ends before them.
+#[tactic(auto, unfolding(crate::specs::Cursor::flags_taken))]
+fn take_flags(section: &[u8], cursor: SizeCursor) -> Option<SizeCursor>
     ensures { result ≡ flags_taken section.now cursor }
 {
     if cursor.place % 8 != 0 {
-        return FlagStep::Found(cursor);
+        return Some(cursor);
     }
     let at = cursor.at;
     if cut_at(section, at) {
-        return FlagStep::Refused;
+        return None;
     }
-    FlagStep::Found(SizeCursor {
+    Some(SizeCursor {
         fixed: cursor.fixed,
         at: at + 2,
         place: 0,
@@ -229,60 +202,62 @@ fn take_flags(section: &[u8], cursor: SizeCursor) -> FlagStep
     })
 }
 
-// The length at a cursor that holds its flag bytes.
-fn read_size(section: &[u8], cursor: SizeCursor) -> SizeRead
+// The length at a cursor that holds its flag bytes, and the byte after it; none where both bits are
+// set, the section ends too soon, or a word or the length is too large.
+fn read_size(section: &[u8], cursor: SizeCursor) -> Option<(u32, usize)>
     ensures { result ≡ size_at section.now cursor }
 {
     let at = cursor.at;
     if 128 <= cursor.same {
         if 128 <= cursor.sizes {
-            return SizeRead::Refused;
+            return None;
         }
-        return SizeRead::Found(cursor.previous, at);
+        return Some((cursor.previous, at));
     }
     if cursor.sizes < 128 {
         return read_words(section, at);
     }
     if section.len() <= at {
-        return SizeRead::Refused;
+        return None;
     }
-    SizeRead::Found(integers::wide32(integers::wide16(section[at])), at + 1)
+    Some((u32::from(section[at]), at + 1))
 }
 
-// A length in words, refused as soon as it is above 100,000.
-fn read_words(section: &[u8], start: usize) -> SizeRead
+// A length in words and the byte after it, refused as soon as it is above 100,000.
+fn read_words(section: &[u8], start: usize) -> Option<(u32, usize)>
     ensures { result ≡ words_from section.now start }
 {
     let mut at = start;
     let mut sum: u32 = 0;
     while !cut_at(section, at) {
-        let word = integers::wide32(integers::u16_at(section, at));
+        let word = u32::from(integers::u16_at(section, at));
         if WORD_ESCAPE < word {
-            return SizeRead::Refused;
+            return None;
         }
         if MAX_READ_LENGTH < sum + word {
-            return SizeRead::Refused;
+            return None;
         }
         if word < WORD_ESCAPE {
-            return SizeRead::Found(sum + word, at + 2);
+            return Some((sum + word, at + 2));
         }
         sum += word;
         at += 2;
     }
-    SizeRead::Refused
+    None
 }
 
 // A length, unless it is 0 or above 100,000.
-fn length_or_refused(size: u32, cursor: SizeCursor) -> LengthStep
+#[tactic(auto, unfolding(crate::specs::Cursor::length_or_refused, dna::specs::Sizes::length_invalid))]
+fn length_or_refused(size: u32, cursor: SizeCursor) -> Option<(u32, SizeCursor)>
     ensures { result ≡ length_or_refused size cursor }
 {
     if size == 0 {
-        return LengthStep::Refused;
+        return None;
     }
     if MAX_READ_LENGTH < size {
-        return LengthStep::Refused;
+        return None;
     }
-    LengthStep::Found(size, cursor)
+    Some((size, cursor))
 }
 
 // The length before the first read.

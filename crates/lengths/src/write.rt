@@ -2,7 +2,7 @@
 // two ends. The contracts cite specs/Form.antt, specs/Sizes.antt of dna and specs/Paste.antt of
 // base. Each `requires` of a public function is one that encoding has tested before: at most 50,000
 // reads, and room for the bytes.
-ghost use Rattle.std.specs.Prelude.{◌≡◌, ◌+◌, ◌-◌, ◌≤◌, ◌<◌, min, length, get_or};
+ghost use Rattle.std.specs.Prelude.{◌≡◌, ◌+◌, ◌≤◌, ◌<◌, length, get_or};
 ghost use Rattle.base.specs.Lists.{part, steps_from};
 ghost use Rattle.base.specs.Paste.{pasted};
 ghost use Rattle.dna.specs.Sizes.{stored_bytes, size_group_bytes, size_section_bytes};
@@ -21,9 +21,6 @@ use varint16::{put_words, words_length};
 // A length below it takes one byte.
 const BYTE_LIMIT: u32 = 256;
 
-// What stands for the length before the first read: no length is as large.
-const NO_LENGTH: u64 = 4294967296;
-
 // Where the writing of a group stands.
 #[derive(Clone, Copy)]
 struct GroupWriter {
@@ -36,28 +33,19 @@ struct GroupWriter {
 
 // ---- The section
 
-// How many bytes the size section takes. Two reads a turn.
+// How many bytes the size section takes.
 pub fn sizes_length(ends: &[u32]) -> usize
     requires { length ends.now ≤ max_reads }
     ensures { result ≡ length (size_section_bytes (stored_of ends.now)) }
 {
-    let mut sum = (ends.len() + 7) / 8 * 2;
+    let mut sum = ends.len().div_ceil(8) * 2;
     let mut before: u32 = 0;
-    let mut previous: u64 = NO_LENGTH;
-    let mut i: usize = 0;
-    while i + 1 < ends.len() {
-        let middle = ends[i];
-        let end = ends[i + 1];
-        let first = difference(middle, before);
-        let second = difference(end, middle);
-        sum += stored_length(first, previous);
-        sum += stored_length(second, integers::wide64(first));
-        before = end;
-        previous = integers::wide64(second);
-        i += 2;
-    }
-    if i < ends.len() {
-        return sum + stored_length(difference(ends[i], before), previous);
+    let mut previous: Option<u32> = None;
+    for end in ends {
+        let size = end.saturating_sub(before);
+        sum += stored_length(size, previous);
+        before = *end;
+        previous = Some(size);
     }
     sum
 }
@@ -70,11 +58,9 @@ pub fn put_sizes(ends: &[u32], out: &mut [u8], at: usize) -> usize
         (size_section_bytes (stored_of ends.now)))
         × (result ≡ at + length (size_section_bytes (stored_of ends.now))) }
 {
-    let mut from: usize = 0;
     let mut place = at;
-    while from < ends.len() {
-        place = put_group(ends, from, out, place);
-        from += 8;
+    for group in 0..ends.len().div_ceil(8) {
+        place = put_group(ends, 8 * group, out, place);
     }
     place
 }
@@ -88,21 +74,18 @@ fn put_group(ends: &[u32], from: usize, out: &mut [u8], at: usize) -> usize
         (size_group_bytes (part (stored_of ends.now) from 8)))
         × (result ≡ at + length (size_group_bytes (part (stored_of ends.now) from 8))) }
 {
-    let reads = group_size(ends.len(), from);
+    let reads = (ends.len() - from).min(8);
     let mut before = end_before(ends, from);
     let mut previous = length_before(ends, from);
     let mut writer = GroupWriter {
         place: at + 2,
         flags: 0,
     };
-    let mut k: usize = 0;
-    while k < reads {
-        let end = ends[from + k];
-        let size = difference(end, before);
+    for end in &ends[from..from + reads] {
+        let size = end.saturating_sub(before);
         writer = put_size(size, previous, out, writer);
-        before = end;
-        previous = integers::wide64(size);
-        k += 1;
+        before = *end;
+        previous = Some(size);
     }
     integers::put_u16(out, at, writer.flags << (8 - reads));
     writer.place
@@ -112,16 +95,14 @@ fn put_group(ends: &[u32], from: usize, out: &mut [u8], at: usize) -> usize
 pub fn all_equal(ends: &[u32]) -> bool
     ensures { result ≡ all_equal (steps_from 0 ends.now) }
 {
-    if ends.len() == 0 {
+    if ends.is_empty() {
         return false;
     }
     let first = length_at(ends, 0);
-    let mut i: usize = 1;
-    while i < ends.len() {
+    for i in 1..ends.len() {
         if length_at(ends, i) != first {
             return false;
         }
-        i += 1;
     }
     true
 }
@@ -129,10 +110,10 @@ pub fn all_equal(ends: &[u32]) -> bool
 // ---- One length
 
 // How many bytes a length takes after one of `previous` letters.
-fn stored_length(size: u32, previous: u64) -> usize
+fn stored_length(size: u32, previous: Option<u32>) -> usize
     ensures { (result ≡ length (stored_bytes (stored_after previous size))) × (result ≤ 262144) }
 {
-    if integers::wide64(size) == previous {
+    if previous == Some(size) {
         return 0;
     }
     if size < BYTE_LIMIT {
@@ -143,7 +124,7 @@ fn stored_length(size: u32, previous: u64) -> usize
 
 // Writes a length after one of `previous` letters: same bit before byte-size bit before words.
 // The flags of at most seven reads are gathered before.
-fn put_size(size: u32, previous: u64, out: &mut [u8], writer: GroupWriter) -> GroupWriter
+fn put_size(size: u32, previous: Option<u32>, out: &mut [u8], writer: GroupWriter) -> GroupWriter
     requires size_in_bounds { writer.place + length (stored_bytes (stored_after previous size))
         ≤ length out.old }
     requires flags_bound { writer.flags ≤ 0x7f7f }
@@ -153,7 +134,7 @@ fn put_size(size: u32, previous: u64, out: &mut [u8], writer: GroupWriter) -> Gr
 {
     let at = writer.place;
     let flags = writer.flags * 2;
-    if integers::wide64(size) == previous {
+    if previous == Some(size) {
         return GroupWriter {
             place: at,
             flags: flags + 1,
@@ -168,21 +149,21 @@ fn put_size(size: u32, previous: u64, out: &mut [u8], writer: GroupWriter) -> Gr
     }
     GroupWriter {
         place: put_words(size, out, at),
-        flags: flags,
+        flags,
     }
 }
 
 // ---- Lengths from ends
 
-// The length of the read before read i.
-fn length_before(ends: &[u32], i: usize) -> u64
+// The length of the read before read i; none before the first.
+fn length_before(ends: &[u32], i: usize) -> Option<u32>
     requires { i < length ends.now }
     ensures { result ≡ length_before ends.now i }
 {
     if i == 0 {
-        return NO_LENGTH;
+        return None;
     }
-    integers::wide64(length_at(ends, i - 1))
+    Some(length_at(ends, i - 1))
 }
 
 // Where the read before read i ends.
@@ -201,26 +182,5 @@ fn length_at(ends: &[u32], i: usize) -> u32
     requires { i < length ends.now }
     ensures { result ≡ get_or (steps_from 0 ends.now) i 0 }
 {
-    difference(ends[i], end_before(ends, i))
-}
-
-// The difference of two numbers, 0 where it would be negative.
-fn difference(high: u32, low: u32) -> u32
-    ensures { result ≡ high - low }
-{
-    if high < low {
-        return 0;
-    }
-    high - low
-}
-
-// How many reads the group from `from` on has.
-fn group_size(reads: usize, from: usize) -> usize
-    requires { from < reads }
-    ensures { result ≡ min 8 (reads - from) }
-{
-    if 8 < reads - from {
-        return 8;
-    }
-    reads - from
+    ends[i].saturating_sub(end_before(ends, i))
 }

@@ -1,7 +1,8 @@
 // A block of three raw reads of 5, 5 and 300 letters, all of them A, with any bytes for its size
 // section; and the number that a block earns.
-use crate::parts::first_bytes;
+use crate::parts::first_part;
 use crate::section::write_sizes;
+use dna::refusals::Refusal;
 use header::faults::header_fault;
 use header::writing::{VaryingFields, put_header};
 use lengths::blocks::lengths_fault;
@@ -27,7 +28,7 @@ pub const ENCODER_FLAG: u32 = 0x4;
 pub fn write_block(out: &mut [u8]) -> usize {
     let mut sizes = [0u8; SECTION_CAPACITY];
     let count = write_sizes(&[5, 10, 310], &mut sizes);
-    write_block_with(first_bytes(&sizes, count), ENCODER_FLAG, 0, out)
+    write_block_with(first_part(&sizes, count), ENCODER_FLAG, 0, out)
 }
 
 // The same with the bytes of the size section, the flags and l_read given; 0 where there is too
@@ -54,7 +55,7 @@ fn block_fields(size: u32, flags: u32, each: u32) -> VaryingFields {
         l_names: 0,
         l_size: size,
         l_n: 1,
-        flags: flags,
+        flags,
         l_read: each,
         n_reads: 3,
         b_id: 7,
@@ -68,21 +69,12 @@ fn put_bytes_at(bytes: &[u8], out: &mut [u8], at: usize) {
     if out.len() < at {
         return;
     }
-    let mut i: usize = 0;
-    while i < bytes.len() {
-        if out.len() - at <= i {
-            return;
-        }
-        out[at + i] = bytes[i];
-        i += 1;
-    }
+    let count = bytes.len().min(out.len() - at);
+    out[at..at + count].copy_from_slice(&bytes[..count]);
 }
 
-// The first of 2 to 10 that a block earns, or 0.
-pub fn block_fault(input: &[u8]) -> u32 {
-    let number = header_fault(input);
-    if number == 0 {
-        return lengths_fault(input);
-    }
-    number
+// The first of 2 to 10 that a block earns.
+pub fn block_fault(input: &[u8]) -> Result<(), Refusal> {
+    header_fault(input)?;
+    lengths_fault(input)
 }

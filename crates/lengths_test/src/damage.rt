@@ -2,9 +2,9 @@
 // still good.
 use crate::block::{BLOCK_CAPACITY, ENCODER_FLAG, block_fault, write_block, write_block_with};
 use crate::lines::{end_line, put_number, start_line};
-use crate::parts::first_bytes;
+use crate::parts::first_part;
 use header::faults::{ENCRYPTED_FLAG, FALLBACK_FLAG, SAME_LENGTH_FLAG};
-use integers::{put_u16, put_u32, wide64};
+use integers::{put_u16, put_u32};
 use std::io;
 
 // Offsets of header fields.
@@ -141,7 +141,7 @@ fn run_raw_sizes(rt: &impl Print) -> io::Result<()> {
 fn run_input(rt: &impl Print, label: &[u8], most: usize) -> io::Result<()> {
     let mut block = [0u8; BLOCK_CAPACITY];
     let size = write_block(&mut block);
-    put_case(rt, label, first_bytes(first_bytes(&block, size), most))
+    put_case(rt, label, first_part(first_part(&block, size), most))
 }
 
 // The block with a field of two bytes replaced.
@@ -152,7 +152,7 @@ fn run_short_field(rt: &impl Print, label: &[u8], at: usize, number: u16) -> io:
         return Ok(());
     }
     put_u16(&mut block, at, number);
-    put_case(rt, label, first_bytes(&block, size))
+    put_case(rt, label, first_part(&block, size))
 }
 
 // The block with a field of four bytes replaced.
@@ -163,27 +163,31 @@ fn run_field(rt: &impl Print, label: &[u8], at: usize, number: u32) -> io::Resul
         return Ok(());
     }
     put_u32(&mut block, at, number);
-    put_case(rt, label, first_bytes(&block, size))
+    put_case(rt, label, first_part(&block, size))
 }
 
 // The block with this size section.
 fn run_sizes(rt: &impl Print, label: &[u8], sizes: &[u8]) -> io::Result<()> {
     let mut block = [0u8; BLOCK_CAPACITY];
     let size = write_block_with(sizes, ENCODER_FLAG, 0, &mut block);
-    put_case(rt, label, first_bytes(&block, size))
+    put_case(rt, label, first_part(&block, size))
 }
 
 // The block with flag 0x1, this l_read and this size section.
 fn run_same(rt: &impl Print, label: &[u8], each: u32, sizes: &[u8]) -> io::Result<()> {
     let mut block = [0u8; BLOCK_CAPACITY];
     let size = write_block_with(sizes, ENCODER_FLAG + SAME_LENGTH_FLAG, each, &mut block);
-    put_case(rt, label, first_bytes(&block, size))
+    put_case(rt, label, first_part(&block, size))
 }
 
 // The line of a case: its label and the number.
 fn put_case(rt: &impl Print, label: &[u8], input: &[u8]) -> io::Result<()> {
     start_line(rt, label)?;
     start_line(rt, b": number")?;
-    put_number(rt, wide64(block_fault(input)))?;
+    let number = match block_fault(input) {
+        Ok(()) => 0,
+        Err(refusal) => refusal.number(),
+    };
+    put_number(rt, u64::from(number))?;
     end_line(rt)
 }

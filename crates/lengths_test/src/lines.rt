@@ -1,5 +1,4 @@
 // What is printed: words, numbers and bytes with a space before each.
-use integers::wide64;
 use std::io;
 
 // The first word of a line.
@@ -22,19 +21,15 @@ pub fn put_byte(rt: &impl Print, byte: u8) -> io::Result<()> {
 }
 
 pub fn put_bytes(rt: &impl Print, bytes: &[u8]) -> io::Result<()> {
-    let mut i: usize = 0;
-    while i < bytes.len() {
-        put_byte(rt, bytes[i])?;
-        i += 1;
+    for byte in bytes {
+        put_byte(rt, *byte)?;
     }
     Ok(())
 }
 
 pub fn put_numbers(rt: &impl Print, numbers: &[u32]) -> io::Result<()> {
-    let mut i: usize = 0;
-    while i < numbers.len() {
-        put_number(rt, wide64(numbers[i]))?;
-        i += 1;
+    for number in numbers {
+        put_number(rt, u64::from(*number))?;
     }
     Ok(())
 }

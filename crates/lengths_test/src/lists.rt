@@ -1,10 +1,8 @@
 // Lists of read lengths: the size section of each, and the lengths that a walk over it gives. A
 // list of equal lengths has its section too; a block would have flag 0x1 and none.
 use crate::lines::{end_line, put_bytes, put_ended, put_number, put_numbers, put_word, start_line};
-use crate::parts::{first_bytes, first_numbers};
+use crate::parts::first_part;
 use crate::section::{put_ends, write_sizes};
-use integers::wide64;
-use lengths::LengthStep;
 use lengths::write::all_equal;
 use std::io;
 
@@ -32,7 +30,7 @@ fn run_list(rt: &impl Print, sizes: &[u32]) -> io::Result<()> {
     end_line(rt)?;
     let mut ends = [0u32; LIST_CAPACITY];
     put_ends(sizes, &mut ends);
-    put_list(rt, first_numbers(&ends, sizes.len()))
+    put_list(rt, first_part(&ends, sizes.len()))
 }
 
 // Whether all lengths are equal, the bytes of the section, and the lengths that they give.
@@ -42,7 +40,7 @@ fn put_list(rt: &impl Print, ends: &[u32]) -> io::Result<()> {
     end_line(rt)?;
     let mut space = [0u8; SECTION_CAPACITY];
     let size = write_sizes(ends, &mut space);
-    put_section(rt, first_bytes(&space, size), ends.len())
+    put_section(rt, first_part(&space, size), ends.len())
 }
 
 fn put_equal(rt: &impl Print, equal: bool) -> io::Result<()> {
@@ -66,14 +64,12 @@ fn put_section(rt: &impl Print, section: &[u8], reads: usize) -> io::Result<()> 
 // The lengths, read by read; whether the walk ended where the section does.
 fn put_walk(rt: &impl Print, section: &[u8], reads: usize) -> io::Result<bool> {
     let mut cursor = lengths::first_cursor(false, 0);
-    let mut i: usize = 0;
-    while i < reads {
-        let LengthStep::Found(size, next) = lengths::next_length(section, cursor) else {
+    for _read in 0..reads {
+        let Some((size, next)) = lengths::next_length(section, cursor) else {
             return Ok(false);
         };
-        put_number(rt, wide64(size))?;
+        put_number(rt, u64::from(size))?;
         cursor = next;
-        i += 1;
     }
     Ok(lengths::cursor_ended(section, cursor))
 }

@@ -1,10 +1,8 @@
 // The largest block: 50,000 reads of 5 and 300 letters in turn.
 use crate::lines::{end_line, put_bytes, put_ended, put_number, put_word, start_line};
-use crate::parts::first_bytes;
+use crate::parts::first_part;
 use crate::section::{put_ends, write_sizes};
 use header::faults::MAX_READS;
-use integers::wide64;
-use lengths::LengthStep;
 use std::io;
 
 // A group takes 2 flag bytes, 4 bytes and 4 words.
@@ -33,17 +31,15 @@ pub fn run_many(rt: &impl Print) -> io::Result<()> {
     put_word(rt, b"section bytes")?;
     put_number(rt, size as u64)?;
     put_word(rt, b"first group")?;
-    put_bytes(rt, first_bytes(&space, GROUP_BYTES))?;
+    put_bytes(rt, first_part(&space, GROUP_BYTES))?;
     end_line(rt)?;
-    put_walked(rt, walk(first_bytes(&space, size), MAX_READS as u32))
+    put_walked(rt, walk(first_part(&space, size), MAX_READS as u32))
 }
 
 // The length of each read.
 fn put_lengths(sizes: &mut [u32]) {
-    let mut i: usize = 0;
-    while i < sizes.len() {
-        sizes[i] = read_length(i);
-        i += 1;
+    for (i, size) in sizes.iter_mut().enumerate() {
+        *size = read_length(i);
     }
 }
 
@@ -59,20 +55,15 @@ fn read_length(i: usize) -> u32 {
 fn walk(section: &[u8], reads: u32) -> Walked {
     let mut cursor = lengths::first_cursor(false, 0);
     let mut sum: u64 = 0;
-    let mut i: u32 = 0;
-    while i < reads {
-        let LengthStep::Found(size, next) = lengths::next_length(section, cursor) else {
-            return Walked {
-                sum: sum,
-                ended: false,
-            };
+    for _read in 0..reads {
+        let Some((size, next)) = lengths::next_length(section, cursor) else {
+            return Walked { sum, ended: false };
         };
-        sum += wide64(size);
+        sum += u64::from(size);
         cursor = next;
-        i += 1;
     }
     Walked {
-        sum: sum,
+        sum,
         ended: lengths::cursor_ended(section, cursor),
     }
 }

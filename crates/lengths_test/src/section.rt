@@ -2,24 +2,16 @@
 use header::faults::MAX_READS;
 use lengths::write::{put_sizes, sizes_length};
 
-const MAX_END: u32 = 0xffff_ffff;
-
 // The end of each read, counted in letters: of as many reads as there is room for, and as 32 bits
 // can count.
 pub fn put_ends(sizes: &[u32], ends: &mut [u32]) {
-    let mut end: u32 = 0;
-    let mut i: usize = 0;
-    while i < sizes.len() {
-        let size = sizes[i];
-        if ends.len() <= i {
+    let mut sum: u32 = 0;
+    for (end, size) in ends.iter_mut().zip(sizes) {
+        let Some(next) = sum.checked_add(*size) else {
             return;
-        }
-        if MAX_END - end < size {
-            return;
-        }
-        end += size;
-        ends[i] = end;
-        i += 1;
+        };
+        sum = next;
+        *end = next;
     }
 }
 

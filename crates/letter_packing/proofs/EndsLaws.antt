@@ -13,53 +13,52 @@ use Rattle.base.proofs.PasteLaws.{pasted_nil}
 use Rattle.base.proofs.FilledLaws.{Filled, filled_none, filled-all}
 use Rattle.dna.specs.Record.{packed_bytes}
 use Rattle.format.specs.RuleRecord.{padded}
-use Rattle.letter_packing.specs.Read.{codes_in, base_in, end_codes}
+use Rattle.letter_packing.specs.Read.{codes_of, base_in, end_codes}
 use Rattle.letter_packing.proofs.ReadLaws.{length_ends, ends_left, ends_right}
 use Rattle.letter_packing.proofs.PieceLaws.{build-part, filled-part, get_or-pack}
 use Rattle.letter_packing.proofs.PieceLaws.{packed-padded}
 
-module _ (letters : List ℕ) (from to left right : ℕ) (order : from ≤ to)
-    (inside : to ≤ length letters) (fits : left + right ≤ to - from) where
+module _ (read : List ℕ) (left right : ℕ) (fits : left + right ≤ length read) where
   abbrev ends : List ℕ
-  ends = end_codes left right (codes_in letters from to)
+  ends = end_codes left right (codes_of read)
 
   abbrev packed : List ℕ
   packed = pack 4 4 ends
 
   count : length ends ≡ left + right
-  count = length_ends letters from to left right order inside fits
+  count = length_ends read left right fits
 
   pub length_packed : length packed ≡ packed_length 4 (left + right)
   length_packed = length-pack 4 4 ends ∙ ap (packed_length 4) count
 
   -- A byte whose four letters stand side by side in the read.
   full : (j start : ℕ) → j < packed_length 4 (left + right)
-      → ((k : ℕ) → k < 4 → get_or ends (j * 4 + k) 0 ≡ base_in letters (start + k))
-      → byte_of 4 4 (λ k. base_in letters (start + k)) ≡ get_or packed j 0
+      → ((k : ℕ) → k < 4 → get_or ends (j * 4 + k) 0 ≡ base_in read (start + k))
+      → byte_of 4 4 (λ k. base_in read (start + k)) ≡ get_or packed j 0
   full j start h same =
       byte_of_cong 4 4 _ _ (λ k l. sym (same k l))
       ∙ sym (get_or-pack 4 4 ends j (omega (arith, ap (packed_length 4) count)))
 
   -- The whole bytes of the left end come first.
   left_bytes :
-      build (left / 4) (λ j. byte_of 4 4 (λ k. base_in letters (from + 4 * j + k)))
+      build (left / 4) (λ j. byte_of 4 4 (λ k. base_in read (0 + 4 * j + k)))
       ≡ part packed 0 (left / 4)
   unfolding packed_length
   left_bytes =
       build-part packed 0 (left / 4) _ (omega (arith, length_packed))
       (λ j h.
       let there : 0 + j ≡ j = omega arith in
-      full j (from + 4 * j) (omega arith)
+      full j (0 + 4 * j) (omega arith)
       (λ k l.
-      let same : from + (j * 4 + k) ≡ from + 4 * j + k = omega arith in
-      ends_left letters from to left right order inside fits (j * 4 + k) (omega arith)
-      ∙ ap (base_in letters) same)
+      let same : j * 4 + k ≡ 0 + 4 * j + k = omega arith in
+      ends_left read left right fits (j * 4 + k) (omega arith)
+      ∙ ap (base_in read) same)
       ∙ ap (λ (n : ℕ). get_or packed n 0) (sym there))
 
   -- Those of the right end come after the byte in which the left one stops.
-  right_bytes : (start n : ℕ) → start ≡ to - (left + right) + 4 * packed_length 4 left
+  right_bytes : (start n : ℕ) → start ≡ length read - (left + right) + 4 * packed_length 4 left
       → n ≡ (left + right) / 4 - packed_length 4 left
-      → build n (λ j. byte_of 4 4 (λ k. base_in letters (start + 4 * j + k)))
+      → build n (λ j. byte_of 4 4 (λ k. base_in read (start + 4 * j + k)))
       ≡ part packed (packed_length 4 left) n
   unfolding packed_length
   right_bytes start n is many =
@@ -68,14 +67,14 @@ module _ (letters : List ℕ) (from to left right : ℕ) (order : from ≤ to)
       (λ j h.
       full (next + j) (start + 4 * j) (omega arith)
       (λ k l.
-      ends_right letters from to left right order inside fits ((next + j) * 4 + k)
+      ends_right read left right fits ((next + j) * 4 + k)
       (start + 4 * j + k) (omega arith) (omega arith) (omega arith)))
 
   pub right_some : (out new : List ℕ) (at next : ℕ) → next ≡ packed_length 4 left
       → new
       ≡ pasted out (at + next)
       (build ((left + right) / 4 - next)
-      (λ j. byte_of 4 4 (λ k. base_in letters (to - (left + right) + 4 * next + 4 * j + k))))
+      (λ j. byte_of 4 4 (λ k. base_in read (length read - (left + right) + 4 * next + 4 * j + k))))
       → new
       ≡ pasted out (at + packed_length 4 left)
       (part packed (packed_length 4 left) ((left + right) / 4 - packed_length 4 left))
@@ -85,7 +84,7 @@ module _ (letters : List ℕ) (from to left right : ℕ) (order : from ≤ to)
       (λ (m : ℕ).
       pasted out (at + m)
       (build ((left + right) / 4 - m)
-      (λ j. byte_of 4 4 (λ k. base_in letters (to - (left + right) + 4 * m + 4 * j + k)))))
+      (λ j. byte_of 4 4 (λ k. base_in read (length read - (left + right) + 4 * m + 4 * j + k)))))
       is
       ∙ ap (pasted out (at + packed_length 4 left)) (right_bytes _ _ refl refl)
 
@@ -104,7 +103,7 @@ module _ (letters : List ℕ) (from to left right : ℕ) (order : from ≤ to)
       → at + packed_length 4 (left + right) ≤ length old
       → one
       ≡ pasted old at
-      (build (left / 4) (λ j. byte_of 4 4 (λ k. base_in letters (from + 4 * j + k))))
+      (build (left / 4) (λ j. byte_of 4 4 (λ k. base_in read (0 + 4 * j + k))))
       → two ≡ pasted one (at + left / 4) (part packed (left / 4) (packed_length 4 left - left / 4))
       → three ≡ pasted two (at + packed_length 4 left)
       (part packed (packed_length 4 left) ((left + right) / 4 - packed_length 4 left))

@@ -1,5 +1,5 @@
--- A read as the writers of a record are lent it: a stretch of a buffer of letters in ASCII, and the
--- codes that it stands for (01, Records; The writer's fixed rule).
+-- A read as the writers of a record are lent it: its letters in ASCII, by themselves or as a stretch
+-- of a buffer, and the codes that they stand for (01, Records; The writer's fixed rule).
 use Rattle.std.specs.Prelude.{ℕ, ◌+◌, ◌-◌, ◌≤◌, ◌<◌, ◌≡◌, true, List, map, length, get_or}
 use Rattle.base.specs.Lists.{part, member}
 use Rattle.dna.specs.Reference.{alphabet}
@@ -18,6 +18,15 @@ pub record ReadLies (letters : List ℕ) (from to : ℕ) : Type 0 where
 -- The codes of the letters from `from` to `to`.
 unfoldable pub codes_in : (letters : List ℕ) (from to : ℕ) → List ℕ
 codes_in letters from to = map code_of_letter (part letters from (to - from))
+
+-- The same of a read by itself: it is not too long, and each of its letters is A, C, G, T or N.
+pub record ReadFits (read : List ℕ) : Type 0 where
+  pub sized : length read ≤ max_read_length
+  pub known : (i : ℕ) → i < length read → member (get_or read i 0) alphabet ≡ true
+
+-- The codes of its letters.
+unfoldable pub codes_of : (read : List ℕ) → List ℕ
+codes_of read = map code_of_letter read
 
 -- The code of letter i where it is packed in two bits: N is stored as A.
 unfoldable pub base_in : (letters : List ℕ) (i : ℕ) → ℕ

@@ -9,7 +9,6 @@ ghost use Rattle.lines.specs.Cuts.{reads_cut, EndsRise};
 
 use crate::{put_block_line, put_read_line};
 use dna::Counts;
-use integers::size32;
 
 // Writes a line for each read, from index `at` on, and gives the index after them.
 pub fn put_reads(letters: &[u8], ends: &[u32], out: &mut [u8], at: usize) -> usize
@@ -24,12 +23,10 @@ pub fn put_reads(letters: &[u8], ends: &[u32], out: &mut [u8], at: usize) -> usi
 {
     let mut place = at;
     let mut start: usize = 0;
-    let mut k: usize = 0;
-    while k < ends.len() {
-        let end = size32(ends[k]);
+    for end in ends {
+        let end = *end as usize;
         place = put_read_line(&letters[start..end], out, place);
         start = end;
-        k += 1;
     }
     place
 }

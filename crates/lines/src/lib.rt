@@ -27,12 +27,8 @@ pub fn put_text(text: &[u8], out: &mut [u8], at: usize) -> usize
     ensures { (out.new ≡ pasted out.old at text.now)
         × (result ≡ at + length text.now) }
 {
-    let mut k: usize = 0;
-    while k < text.len() {
-        out[at + k] = text[k];
-        k += 1;
-    }
-    at + k
+    out[at..at + text.len()].copy_from_slice(text);
+    at + text.len()
 }
 
 // Writes the decimal digits of a number.

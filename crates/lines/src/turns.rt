@@ -18,8 +18,7 @@ ghost use Rattle.lines.specs.Listing.{
 
 use crate::block_text::put_block;
 use crate::{put_end_line, put_refused_line};
-use format::BlockOutcome;
-use integers::{size64, u64_at};
+use integers::u64_at;
 use reference::reference_size_wrong;
 
 // 32 KiB: the most bytes of a reference file, and of a block.
@@ -85,20 +84,18 @@ pub fn list_block(
     let id = ora::block_id(window);
     let outcome = ora::decode(bases, reference, window, letters, ends, names, name_ends);
     match outcome {
-        BlockOutcome::Refused(number, read) => {
-            let size = put_refused_line(number, block, read, text, 0);
-            return Turn {
-                size: size,
-                moved: 0,
-            };
+        Err(refused) => {
+            let number = refused.refusal.number();
+            let size = put_refused_line(number, block, refused.read, text, 0);
+            Turn { size, moved: 0 }
         }
-        BlockOutcome::Accepted(bytes, counts) => {
-            let reads = size64(counts.reads);
-            let size = put_block(id, counts, letters, &ends[..reads], text);
-            return Turn {
-                size: size,
-                moved: size64(bytes),
-            };
+        Ok(listed) => {
+            let reads = listed.counts.reads as usize;
+            let size = put_block(id, listed.counts, letters, &ends[..reads], text);
+            Turn {
+                size,
+                moved: listed.bytes as usize,
+            }
         }
     }
 }
@@ -131,10 +128,7 @@ pub fn list_left(
 {
     if left.len() == 0 {
         let size = put_end_line(block, text, 0);
-        return Turn {
-            size: size,
-            moved: 0,
-        };
+        return Turn { size, moved: 0 };
     }
     let window = window_of(left);
     list_block(

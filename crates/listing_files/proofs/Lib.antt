@@ -1,2 +1,1 @@
-pub mod SlideLaws
 pub mod ReferenceLaws

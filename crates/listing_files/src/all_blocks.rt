@@ -1,92 +1,59 @@
 // The blocks of a file, one a turn.
-ghost use Rattle.std.specs.Prelude.{◌≡◌, ◌≤◌, length};
-ghost use Rattle.lines.specs.Listing.{
-  letters_lent,
-  ends_lent,
-  name_bytes_lent,
-  name_ends_lent,
-  text_room,
-};
+ghost use Rattle.std.specs.Prelude.{◌≤◌, length};
+ghost use Rattle.lines.specs.Listing.{text_room};
 
-use crate::windows::{Window, next_window};
-use crate::{put_fault, put_text};
-use lines::turns::list_left;
+use crate::Fault;
+use crate::windows::next_window;
+use lines::turns::{ENDS_LENT, LETTERS_LENT, NAME_BYTES_LENT, NAME_ENDS_LENT, list_left};
 use std::io::Read;
 
-// Lists what is left of a file after `block` blocks. Gives how far the window moves; 0 where the
-// listing ends.
-fn list_next<R: Print + Eprint>(
-    rt: &R,
-    bases: u64,
-    reference: &[u8],
-    left: &[u8],
-    block: u64,
-    letters: &mut [u8],
-    ends: &mut [u32],
-    names: &mut [u8],
-    name_ends: &mut [u32],
-    text: &mut [u8],
-) -> usize
-    requires letters_len { length letters.old ≡ letters_lent }
-    requires ends_len { length ends.old ≡ ends_lent }
-    requires names_len { length names.old ≡ name_bytes_lent }
-    requires name_ends_len { length name_ends.old ≡ name_ends_lent }
-    requires text_room_in_bounds { text_room ≤ length text.old }
-    ensures { result ≤ length left.now }
-{
-    let turn = list_left(
-        bases, reference, left, block, letters, ends, names, name_ends, text,
-    );
-    let size = turn.size;
-    if put_text(rt, &text[..size]) {
-        return turn.moved;
-    }
-    0
+// What is lent to each block: the letters and the ends of its reads, and the bytes and the ends of
+// their names.
+#[derive(Drop)]
+pub struct Lent {
+    pub letters: [u8; LETTERS_LENT],
+    pub ends: [u32; ENDS_LENT],
+    pub names: [u8; NAME_BYTES_LENT],
+    pub name_ends: [u32; NAME_ENDS_LENT],
 }
 
 // Lists an opened file, of which so many bytes are read. Its blocks are counted in 64 bits, which
 // no file uses up.
-pub fn list_blocks<R: Print + Eprint, F: Read>(
+pub fn list_blocks<R: Print, F: Read>(
     rt: &R,
     file: &mut F,
-    path: &[u8],
     bases: u64,
     reference: &[u8],
     buffer: &mut [u8],
     filled: usize,
-    letters: &mut [u8],
-    ends: &mut [u32],
-    names: &mut [u8],
-    name_ends: &mut [u32],
+    lent: &mut Lent,
     text: &mut [u8],
-)
+) -> Result<(), Fault>
     requires filled_in_bounds { filled ≤ length buffer.old }
-    requires letters_len { length letters.old ≡ letters_lent }
-    requires ends_len { length ends.old ≡ ends_lent }
-    requires names_len { length names.old ≡ name_bytes_lent }
-    requires name_ends_len { length name_ends.old ≡ name_ends_lent }
     requires text_room_in_bounds { text_room ≤ length text.old }
 {
     let mut at: usize = 0;
     let mut end = filled;
-    let mut block: u64 = 0;
-    while block < u64::MAX {
-        let (from, to) = match next_window(file, buffer, at, end) {
-            Window::At(from, to) => (from, to),
-            Window::Failed(error) => {
-                put_fault(rt, path, error);
-                return;
-            }
-        };
-        let left = &buffer[from..to];
-        let moved = list_next(
-            rt, bases, reference, left, block, letters, ends, names, name_ends, text,
+    for block in 0..u64::MAX {
+        let window = next_window(file, buffer, at, end).map_err(Fault::Blocks)?;
+        let left = &buffer[window.from..window.to];
+        let turn = list_left(
+            bases,
+            reference,
+            left,
+            block,
+            &mut lent.letters,
+            &mut lent.ends,
+            &mut lent.names,
+            &mut lent.name_ends,
+            text,
         );
-        if moved == 0 {
-            return;
+        rt.write_all(&text[..turn.size]).map_err(Fault::Output)?;
+        if turn.moved == 0 {
+            return Ok(());
         }
-        at = from + moved;
-        end = to;
-        block += 1;
+        at = window.from + turn.moved;
+        end = window.to;
     }
+    Ok(())
 }

@@ -7,11 +7,10 @@
 mod all_blocks;
 pub mod windows;
 
-ghost use Rattle.std.specs.Prelude.{◌≡◌, length};
-ghost use Rattle.listing_files.specs.Filled.{FilledIn};
+ghost use Rattle.std.specs.Prelude.{◌≤◌, IfOk, length};
 
-use all_blocks::list_blocks;
-use dna::refusals::REFERENCE_SIZE_WRONG;
+use all_blocks::{Lent, list_blocks};
+use dna::refusals::Refusal;
 use integers::u64_at;
 use lines::put_refused_line;
 use lines::turns::{
@@ -20,7 +19,7 @@ use lines::turns::{
 use std::io::{Error, ErrorKind, Read};
 use std::rt::Files;
 use std::{fs, io};
-use windows::{Filled, fill};
+use windows::fill;
 
 // One byte more than a reference file may have, so that a longer one is noticed.
 const REFERENCE_ROOM: usize = 32_769;
@@ -31,31 +30,38 @@ pub const PATH_ROOM: usize = 4_096;
 // Two blocks of the largest size.
 const BUFFER_ROOM: usize = 65_536;
 
+// What could not be opened, read or written, and why.
+#[derive(Debug, Drop)]
+enum Fault {
+    Reference(Error),
+    Blocks(Error),
+    Output(Error),
+}
+
 // Lists a file of blocks under a reference file. A path that is not UTF-8 is one that cannot be
 // opened.
 pub fn list_files<R: Files + Print + Eprint>(rt: &R, reference: &[u8], blocks: &[u8]) {
-    let mut room = reference_room();
-    let size = match read_file(rt, reference, &mut room) {
-        Filled::To(size) => size,
-        Filled::Failed(error) => {
-            put_fault(rt, reference, error);
-            return;
-        }
-    };
-    match open_read(rt, blocks) {
-        Ok(mut file) => list_opened(rt, &mut file, blocks, &room[..size]),
-        Err(error) => put_fault(rt, blocks, error),
+    match list(rt, reference, blocks) {
+        Ok(()) => {}
+        Err(Fault::Reference(error)) => put_fault(rt, reference, error),
+        Err(Fault::Blocks(error)) => put_fault(rt, blocks, error),
+        Err(Fault::Output(error)) => put_fault(rt, b"standard output", error),
     }
 }
 
-// Reads a file, or as much of it as there is room for.
-fn read_file<R: Files>(rt: &R, path: &[u8], room: &mut [u8]) -> Filled
-    ensures { FilledIn result 0 (length room.old) }
+fn list<R: Files + Print>(rt: &R, reference: &[u8], blocks: &[u8]) -> Result<(), Fault> {
+    let mut room = [0; REFERENCE_ROOM];
+    let size = read_file(rt, reference, &mut room).map_err(Fault::Reference)?;
+    let mut file = open_read(rt, blocks).map_err(Fault::Blocks)?;
+    list_opened(rt, &mut file, &room[..size])
+}
+
+// Reads a file, or as much of it as there is room for, and gives how much that is.
+fn read_file<R: Files>(rt: &R, path: &[u8], room: &mut [u8]) -> io::Result<usize>
+    ensures { IfOk result (λ size. size ≤ length room.old) }
 {
-    match open_read(rt, path) {
-        Ok(mut file) => fill(&mut file, room, 0),
-        Err(error) => Filled::Failed(error),
-    }
+    let mut file = open_read(rt, path)?;
+    fill(&mut file, room, 0)
 }
 
 // Opens a file for reading.
@@ -67,96 +73,31 @@ fn open_read<R: Files>(rt: &R, path: &[u8]) -> io::Result<R::File> {
 }
 
 // Lists an opened file of blocks. It is read from before anything is printed.
-fn list_opened<R: Print + Eprint, F: Read>(rt: &R, file: &mut F, path: &[u8], reference: &[u8]) {
-    let mut buffer = block_room();
-    let mut letters = letter_room();
-    let mut ends = end_room();
-    let mut names = name_room();
-    let mut name_ends = name_end_room();
-    let mut text = text_room();
-    let filled = match fill(file, &mut buffer, 0) {
-        Filled::To(filled) => filled,
-        Filled::Failed(error) => {
-            put_fault(rt, path, error);
-            return;
-        }
+fn list_opened<R: Print, F: Read>(rt: &R, file: &mut F, reference: &[u8]) -> Result<(), Fault> {
+    let mut buffer = [0; BUFFER_ROOM];
+    let mut lent = Lent {
+        letters: [0; LETTERS_LENT],
+        ends: [0; ENDS_LENT],
+        names: [0; NAME_BYTES_LENT],
+        name_ends: [0; NAME_ENDS_LENT],
     };
+    let mut text = [0; TEXT_ROOM];
+    let filled = fill(file, &mut buffer, 0).map_err(Fault::Blocks)?;
     if reference_refused(reference) {
-        let size = put_refused_line(REFERENCE_SIZE_WRONG, 0, 0, &mut text, 0);
-        put_text(rt, &text[..size]);
-        return;
+        let number = Refusal::ReferenceSizeWrong.number();
+        let size = put_refused_line(number, 0, 0, &mut text, 0);
+        return rt.write_all(&text[..size]).map_err(Fault::Output);
     }
     list_blocks(
         rt,
         file,
-        path,
         u64_at(reference, 0),
         &reference[8..],
         &mut buffer,
         filled,
-        &mut letters,
-        &mut ends,
-        &mut names,
-        &mut name_ends,
+        &mut lent,
         &mut text,
-    );
-}
-
-// ---- What is lent
-
-fn block_room() -> [u8; BUFFER_ROOM]
-    ensures { 65_536 ≡ length result }
-{
-    [0; BUFFER_ROOM]
-}
-
-fn reference_room() -> [u8; REFERENCE_ROOM]
-    ensures { 32_769 ≡ length result }
-{
-    [0; REFERENCE_ROOM]
-}
-
-fn letter_room() -> [u8; LETTERS_LENT]
-    ensures { 32_768 ≡ length result }
-{
-    [0; LETTERS_LENT]
-}
-
-fn end_room() -> [u32; ENDS_LENT]
-    ensures { 4_096 ≡ length result }
-{
-    [0; ENDS_LENT]
-}
-
-fn name_room() -> [u8; NAME_BYTES_LENT]
-    ensures { 32_768 ≡ length result }
-{
-    [0; NAME_BYTES_LENT]
-}
-
-fn name_end_room() -> [u32; NAME_ENDS_LENT]
-    ensures { 4_096 ≡ length result }
-{
-    [0; NAME_ENDS_LENT]
-}
-
-fn text_room() -> [u8; TEXT_ROOM]
-    ensures { 37_034 ≡ length result }
-{
-    [0; TEXT_ROOM]
-}
-
-// ---- Standard output and standard error
-
-// Writes to standard output; where that fails, it is said and false is given.
-fn put_text<R: Print + Eprint>(rt: &R, text: &[u8]) -> bool {
-    match rt.write_all(text) {
-        Ok(()) => true,
-        Err(error) => {
-            put_fault(rt, b"standard output", error);
-            false
-        }
-    }
+    )
 }
 
 // Says of a file why it could not be read or written.

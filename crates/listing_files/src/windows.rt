@@ -1,55 +1,36 @@
 // A file of any length in a buffer, from which one block after the other is read. The buffer holds
 // more than one block may have, so that it is moved and filled only where a block might not be
 // whole.
-ghost use Rattle.std.specs.Prelude.{◌≡◌, ◌-◌, ◌≤◌, length};
+ghost use Rattle.std.specs.Prelude.{◌≡◌, ◌-◌, ◌≤◌, IfOk, length};
 ghost use Rattle.base.specs.Lists.{part};
 ghost use Rattle.base.specs.Paste.{pasted};
-ghost use Rattle.listing_files.specs.Filled.{FilledIn, WindowIn};
 
 use lines::turns::MAX_BYTES;
-use std::io::{Error, Read};
-
-// How far a buffer is filled.
-#[derive(Clone, Copy)]
-pub enum Filled {
-    To(usize),
-    // A read failed, and the error says why.
-    Failed(Error),
-}
+use std::io;
+use std::io::Read;
 
 // What is left of the file, as far as it was read: from an index of the buffer up to another.
 #[derive(Clone, Copy)]
-pub enum Window {
-    At(usize, usize),
-    // A read failed, and the error says why.
-    Failed(Error),
+pub struct Window {
+    pub from: usize,
+    pub to: usize,
 }
 
-// Reads once, into a buffer from index `at` on.
-fn read_some<F: Read>(file: &mut F, buffer: &mut [u8], at: usize) -> Filled
-    requires { at ≤ length buffer.old }
-    ensures { FilledIn result at (length buffer.old) }
-{
-    match file.read(&mut buffer[at..]) {
-        Ok(count) => Filled::To(at + count),
-        Err(error) => Filled::Failed(error),
-    }
-}
-
-// Reads into a buffer from index `from` on, until it is full or the file ends.
-pub fn fill<F: Read>(file: &mut F, buffer: &mut [u8], from: usize) -> Filled
+// Reads into a buffer from index `from` on, until it is full or the file ends, and gives how far it
+// is filled.
+pub fn fill<F: Read>(file: &mut F, buffer: &mut [u8], from: usize) -> io::Result<usize>
     requires { from ≤ length buffer.old }
-    ensures { FilledIn result from (length buffer.old) }
+    ensures { IfOk result (λ end. (from ≤ end) × (end ≤ length buffer.old)) }
 {
     let mut at = from;
     while at < buffer.len() {
-        match read_some(file, buffer, at) {
-            Filled::To(end) if end == at => return Filled::To(at),
-            Filled::To(end) => at = end,
-            Filled::Failed(error) => return Filled::Failed(error),
+        let count = file.read(&mut buffer[at..])?;
+        if count == 0 {
+            break;
         }
+        at += count;
     }
-    Filled::To(at)
+    Ok(at)
 }
 
 // Moves the bytes from `at` up to `end` to the start of a buffer.
@@ -59,27 +40,29 @@ pub fn slide(buffer: &mut [u8], at: usize, end: usize)
     ensures { buffer.new
         ≡ pasted buffer.old 0 (part buffer.old at (end - at)) }
 {
-    let mut k: usize = 0;
-    while k < end - at {
-        buffer[k] = buffer[at + k];
-        k += 1;
-    }
+    buffer.copy_within(at..end, 0);
 }
 
 // The window once the bytes before `at` are done with: as much as one block may have, or all that
 // is left of the file.
-pub fn next_window<F: Read>(file: &mut F, buffer: &mut [u8], at: usize, end: usize) -> Window
+pub fn next_window<F: Read>(
+    file: &mut F,
+    buffer: &mut [u8],
+    at: usize,
+    end: usize,
+) -> io::Result<Window>
     requires at_le_end { at ≤ end }
     requires end_in_bounds { end ≤ length buffer.old }
-    ensures { WindowIn result (length buffer.old) }
+    ensures { IfOk result (λ window. (window.from ≤ window.to) × (window.to ≤ length buffer.old)) }
 {
     let left = end - at;
     if MAX_BYTES <= left {
-        return Window::At(at, end);
+        return Ok(Window { from: at, to: end });
     }
     slide(buffer, at, end);
-    match fill(file, buffer, left) {
-        Filled::To(filled) => Window::At(0, filled),
-        Filled::Failed(error) => Window::Failed(error),
-    }
+    let filled = fill(file, buffer, left)?;
+    Ok(Window {
+        from: 0,
+        to: filled,
+    })
 }

@@ -5,11 +5,12 @@ use native.Mathlib.Omega.{arith}
 use mathlib.Core.Bool.{true}
 use mathlib.Core.List.{List, [], ◌++◌, map, map-append}
 use lib.ListN.{length, get_or, length-append, length-map}
+use Rattle.std.specs.Prelude.{Some, None}
 use Rattle.base.specs.Paste.{pasted}
 use Rattle.base.proofs.PasteLaws.{pasted_nil, pasted_append, length_pasted}
 use Rattle.dna.specs.Record.{max_entries, Entry, entry_byte}
 use Rattle.format.specs.RuleEntries.{gap_entries, entries_of_gaps, differs_at, gaps_to, gaps_of}
-use Rattle.mismatches.specs.Places.{NoneBetween, FirstWhere}
+use Rattle.mismatches.specs.Places.{NoneBetween, FirstOf}
 use Rattle.mismatches.specs.Entries.{EntriesPut}
 use Rattle.mismatches.proofs.PlaceLaws.{places_left, places-all, places_passed, places-here}
 use Rattle.mismatches.proofs.PlaceLaws.{places-end}
@@ -99,14 +100,15 @@ module _ (expected : ℕ → ℕ) (codes : List ℕ) (bound : ℕ) where
         }
 
     -- All is written.
-    pub writing_end : bound ≤ place → count ≤ max_entries → EntriesPut old list 0 entries count
+    pub writing_end : bound ≤ place → count ≤ max_entries
+        → EntriesPut old list 0 entries (Some count)
     unfolding entries_left gaps_to entries_of_gaps
     writing_end past few =
         let none : entries_left before place ≡ [] =
         ap (λ (places : List ℕ). entries_of_gaps expected before (gaps_to codes before places))
         (places-end (differs_at expected codes) place bound past) in
         let all : count ≡ length entries = omega (arith, writing.counted, ap length none) in
-        put_few (omega arith) (omega arith)
+        put_few (omega arith) count (omega arith)
         (sym
         (writing.becomes
         ∙ ap (λ (es : List Entry). pasted list count (map entry_byte es)) none
@@ -131,40 +133,36 @@ module _ (expected : ℕ → ℕ) (codes : List ℕ) (bound : ℕ) where
       (sym is) back
 
   -- The next difference, at `there`, and what writing its gap answers.
-  module _ {old list list' : List ℕ} {count before place there code answer : ℕ}
+  module _ {old list : List ℕ} {count before place there code : ℕ}
       (writing : Writing old list count before place)
-      (first : FirstWhere (differs_at expected codes) place bound there) (inside : there < bound)
-      (rises : before ≤ place) (is : code ≡ get_or codes there 0)
-      (put : EntriesPut list list' count
-      (gap_entries expected before (record { gap = there - before; code = code })) answer) where
+      (first : FirstOf (differs_at expected codes) place bound there)
+      (rises : before ≤ place) (is : code ≡ get_or codes there 0) where
     abbrev gap : List Entry
     gap = gap_entries expected before (record { gap = there - before; code = code })
 
     reached : Writing old list count before there
-    reached = writing_passed writing first.passed first.inside
+    reached = writing_passed writing first.passed (omega (arith, first.inside))
 
     split : entries_left before there ≡ gap ++ entries_left there (there + 1)
     split =
-        next_gap before there code inside (first.holds inside)
-        (omega (arith, first.passed.rises)) is
+        next_gap before there code first.inside first.holds (omega (arith, first.passed.rises)) is
 
-    pub writing_turn : answer ≤ max_entries → max_entries ≤ length list
-        → Writing old list' answer there (there + 1)
-    writing_turn within room =
-        let written = put_within put within in
+    pub writing_turn : {list' : List ℕ} {answer : ℕ} → EntriesPut list list' count gap (Some answer)
+        → max_entries ≤ length list → Writing old list' answer there (there + 1)
+    writing_turn {list'} {answer} put room =
+        let written = put_within put in
         part_written reached gap (entries_left there (there + 1)) list' answer there (there + 1)
-        split refl written.1 written.0 (omega arith)
+        split refl written.2 written.0 (omega (arith, written.1))
 
     -- More entries than fit.
-    pub writing_over : max_entries < answer → EntriesPut old list' 0 entries answer
-    writing_over over =
-        let more = put_over put over in
+    pub writing_over : {list' : List ℕ} → EntriesPut list list' count gap None
+        → EntriesPut old list' 0 entries None
+    writing_over put =
         put_many
         (omega (
           arith,
           reached.counted,
           ap length split,
           length-append gap (entries_left there (there + 1)),
-          more.0,
+          put_over put,
         ))
-        more.1

@@ -1,6 +1,6 @@
 -- The places at which a test holds, from one on: none, or the first of them and those after it.
 -- Assumes nothing.
-use mathlib.Core.Path.{◌≡◌, sym, ap, ap₂, ◌∙◌}
+use mathlib.Core.Path.{◌≡◌, sym, ap, ap₂, ◌∙◌, subst}
 use Prim.Native.Nat.{ℕ, zero, suc, ◌+◌, ◌-◌, ◌≤◌, ◌<◌}
 use native.Mathlib.Omega.{arith}
 use mathlib.Core.Bool.{Bool, true, false}
@@ -8,7 +8,7 @@ use mathlib.Core.List.{List, [], ◌∷◌}
 use Rattle.base.specs.Lists.{keep, places_where}
 use Rattle.base.proofs.ListLaws.{by_order}
 use Rattle.base.proofs.PlacesWhereLaws.{count_up, places_count}
-use Rattle.mismatches.specs.Places.{NoneBetween, FirstWhere}
+use Rattle.mismatches.specs.Places.{NoneBetween, FirstOf}
 
 -- ---- A search
 
@@ -38,15 +38,15 @@ none_more {test} {from} {to} passed answer is fails =
 -- The search ends at a place where the test holds.
 pub first_found : {test : ℕ → Bool} {from place : ℕ} (bound : ℕ) → NoneBetween test from place
     → place < bound → (answer : Bool) → answer ≡ test place → answer ≡ true
-    → FirstWhere test from bound place
+    → FirstOf test from bound place
 first_found bound passed inside answer is holds =
-    record { passed = passed; inside = omega arith; holds = λ h. sym is ∙ holds }
+    record { passed = passed; inside = inside; holds = sym is ∙ holds }
 
 -- It ends at the bound.
-pub first-none : {test : ℕ → Bool} {from place : ℕ} (bound : ℕ) → NoneBetween test from place
-    → place ≤ bound → bound ≤ place → FirstWhere test from bound place
-first-none bound passed inside past =
-    record { passed = passed; inside = inside; holds = λ h. absurd (omega arith) }
+pub none-first : {test : ℕ → Bool} {from place : ℕ} (bound : ℕ) → NoneBetween test from place
+    → place ≤ bound → bound ≤ place → NoneBetween test from bound
+none-first {test} {from} bound passed inside past =
+    subst (λ (n : ℕ). NoneBetween test from n) (omega arith) passed
 
 -- ---- The places
 

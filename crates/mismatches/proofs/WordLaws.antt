@@ -1,9 +1,9 @@
 -- Eight letters that are two words of a strand's table are as the reference gives them; one law
 -- serves both strands. Assumes nothing.
 use mathlib.Core.Path.{◌≡◌, refl, sym, ap, ◌∙◌, subst}
-use Prim.Native.Nat.{ℕ, ◌+◌, ◌-◌, ◌*◌, ◌^◌, ◌≤◌, ◌<◌}
+use Prim.Native.Nat.{ℕ, ◌+◌, ◌-◌, ◌*◌, ◌/◌, ◌%◌, ◌^◌, ◌≤◌, ◌<◌}
 use native.Mathlib.Omega.{arith}
-use mathlib.Core.Bool.{Bool}
+use mathlib.Core.Bool.{Bool, true, false}
 use mathlib.Core.List.{List}
 use lib.ListN.{length, get_or}
 use Rattle.base.specs.Lists.{AllBytes}
@@ -88,3 +88,11 @@ module _ (letters : List ℕ) (start : ℕ) (reference : List ℕ) (forward : Bo
       (four_passed (start + k) k i first refl (omega arith) one small begins both.0)
       (four_passed (start + k + 4) (k + 4) j second (omega arith) (omega arith) two small' begins'
       both.1))
+
+-- Letters some multiple of four past letters at the boundary of a byte are at the boundary of one.
+pub boundary : (forward : Bool) (leftmost aligned from k : ℕ) → from + k + 4 ≤ aligned → k % 4 ≡ 0
+    → piece_leftmost forward leftmost aligned from 4 % 4 ≡ 0
+    → 4 * (piece_leftmost forward leftmost aligned (from + k) 4 / 4)
+    ≡ piece_leftmost forward leftmost aligned (from + k) 4
+boundary true leftmost aligned from k room whole begins = omega arith
+boundary false leftmost aligned from k room whole begins = omega arith

@@ -1,7 +1,7 @@
 -- The entries of the fixed rule (01, The writer's fixed rule) in the terms that the code is lent:
 -- a read's letters in ASCII, and a stretch of the reference on a strand. What the entries of some
 -- codes are is said in format/specs/RuleEntries.antt.
-use Rattle.std.specs.Prelude.{ℕ, suc, ◌+◌, ◌-◌, ◌*◌, ◌≤◌, ◌≡◌, Bool, cond, List, map, length, leb}
+use Rattle.std.specs.Prelude.{ℕ, suc, ◌+◌, ◌-◌, ◌*◌, ◌≤◌, ◌≡◌, Bool, cond, List, map, length, leb, Option, Some, None}
 use Rattle.base.specs.Lists.{build, part, Below}
 use Rattle.base.specs.Paste.{pasted}
 use Rattle.dna.specs.Reference.{strand_base, stretch_index}
@@ -45,16 +45,16 @@ fillers_from expected before count =
     build count
     (λ j. record { offset = max_entry_offset; code = expected (before + max_entry_offset * suc j) })
 
--- How many entries are answered: 32 stands for more than 31, which no record can hold.
-unfoldable pub answered_count : (count : ℕ) → ℕ
-answered_count count = cond (leb count max_entries) count (suc max_entries)
+-- How many entries are answered: None where there are more than 31, which no record can hold.
+unfoldable pub answered_count : (count : ℕ) → Option ℕ
+answered_count count = cond (leb count max_entries) (Some count) None
 
 -- Entries written into a list from index `at` on: how many the list then has is answered, and where
 -- that is 31 or less their bytes stand there. Of more, nothing is said of the list.
-pub record EntriesPut (old new : List ℕ) (at : ℕ) (entries : List Entry) (answer : ℕ) : Type 0
-  where
-    pub counted : answer ≡ answered_count (at + length entries)
-    pub stand : at + length entries ≤ max_entries → new ≡ pasted old at (map entry_byte entries)
+pub record EntriesPut (old new : List ℕ) (at : ℕ) (entries : List Entry) (answer : Option ℕ)
+    : Type 0 where
+  pub counted : answer ≡ answered_count (at + length entries)
+  pub stand : at + length entries ≤ max_entries → new ≡ pasted old at (map entry_byte entries)
 
 -- The aligned letters of a read: they lie in the letters, and each is one of A, C, G, T, N.
 pub record AlignedFits (letters : List ℕ) (start aligned : ℕ) : Type 0 where

@@ -7,9 +7,8 @@ pub record NoneBetween (test : ℕ → Bool) (from to : ℕ) : Type 0 where
   pub rises : from ≤ to
   pub none : (k : ℕ) → from ≤ k → k < to → test k ≡ false
 
--- The first place from `from` on and before `bound` at which the test holds; `bound` where there is
--- none.
-pub record FirstWhere (test : ℕ → Bool) (from bound place : ℕ) : Type 0 where
+-- The first place from `from` on and before `bound` at which the test holds.
+pub record FirstOf (test : ℕ → Bool) (from bound place : ℕ) : Type 0 where
   pub passed : NoneBetween test from place
-  pub inside : place ≤ bound
-  pub holds : place < bound → test place ≡ true
+  pub inside : place < bound
+  pub holds : test place ≡ true

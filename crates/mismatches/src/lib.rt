@@ -1,151 +1,88 @@
 // Where a read differs from the reference, as the entries of a record (01, The writer's fixed
 // rule): differences, and fillers where they are more than 63 letters apart. The contracts cite
-// specs/Entries.antt; the tables of words are made once and lent to each call.
+// specs/Entries.antt, of the letters that specs/Compared.antt names.
 #![tactic(auto)]
 
 pub mod compare;
 
-ghost use Rattle.std.specs.Prelude.{◌≡◌, true, false, map, ◌+◌, ◌*◌, ◌≤◌, ◌<◌, length};
+ghost use Rattle.std.specs.Prelude.{◌≡◌, map, ◌+◌, ◌*◌, ◌≤◌, ◌<◌, length};
 ghost use Rattle.base.specs.Paste.{pasted};
 ghost use Rattle.dna.specs.Record.{max_entries, max_entry_offset, entry_byte};
 ghost use Rattle.format.specs.RuleEntries.{filler_count};
 ghost use Rattle.format.specs.RuleBlock.{code_of_letter};
-ghost use Rattle.reference.specs.Stretch.{StretchFits};
-ghost use Rattle.reference.specs.Tables.{word_table};
-ghost use Rattle.mismatches.specs.Entries.{
-  stretch_base,
-  stretch_entries,
-  entries_between,
-  fillers_from,
-  EntriesPut,
-  AlignedFits,
-};
+ghost use Rattle.mismatches.specs.Entries.{fillers_from, EntriesPut, AlignedFits};
+ghost use Rattle.mismatches.specs.Compared.{given_at, entries_of, entries_to};
 
-use compare::{expected_code, next_difference};
+use compare::Aligned;
 use dna::MAX_ENTRIES;
 
 // The most letters from one entry to the next.
 const MAX_ENTRY_OFFSET: usize = 63;
 
-// Writes the entries of the aligned letters at a stretch to the start of the list, a byte each, and
-// gives their number; 32 where there are more than 31, found before the 32nd is written.
-pub fn put_entries(
-    letters: &[u8],
-    start: usize,
-    aligned: usize,
-    reference: &[u8],
-    forward: bool,
-    leftmost: usize,
-    forward_table: &[u64; 256],
-    reverse_table: &[u64; 256],
-    list: &mut [u8],
-) -> usize
-    requires { (AlignedFits letters.now start aligned)
-        × (StretchFits reference.now leftmost aligned)
-        × (forward_table.now ≡ word_table true)
-        × (reverse_table.now ≡ word_table false)
+// Writes the entries of the aligned letters to the start of the list, a byte each, and gives their
+// number; None where there are more than 31, found before the 32nd is written.
+pub fn put_entries(aligned: &Aligned, list: &mut [u8]) -> Option<usize>
+    requires { (AlignedFits aligned.now.letters.now 0 (length aligned.now.letters.now))
         × (max_entries ≤ length list.old) }
-    ensures { EntriesPut list.old list.new 0
-        (stretch_entries letters.now start reference.now forward leftmost
-        aligned) result }
+    ensures { EntriesPut list.old list.new 0 (entries_of aligned.now) result }
 {
     let mut count: usize = 0;
     let mut before: usize = 0;
-    let mut place: usize = 0;
-    while place < aligned {
-        place = next_difference(
-            letters,
-            start,
-            place,
-            aligned,
-            reference,
-            forward,
-            leftmost,
-            forward_table,
-            reverse_table,
-        );
-        if place < aligned {
-            let code = code_of_letter(letters[start + place]);
-            count = put_gap(
-                reference, forward, leftmost, aligned, before, place, code, list, count,
-            );
-            if MAX_ENTRIES < count {
-                return count;
-            }
-            before = place;
-            place += 1;
-        }
+    let mut from: usize = 0;
+    while let Some(place) = aligned.next_difference(from) {
+        let code = code_of_letter(aligned.letters[place]);
+        count = put_gap(aligned, before, place, code, list, count)?;
+        before = place;
+        from = place + 1;
     }
-    count
+    Some(count)
 }
 
 // Writes the entries of the gap from `before` to the difference at `place` after the first `count`
-// of the list, and gives how many there are then; 32 where there are more than 31.
+// of the list, and gives how many there are then; None where there are more than 31. The list is
+// room that is lent and filled from the start, with its count beside it, since there is no heap.
 fn put_gap(
-    reference: &[u8],
-    forward: bool,
-    leftmost: usize,
-    aligned: usize,
+    aligned: &Aligned,
     before: usize,
     place: usize,
     code: u8,
     list: &mut [u8],
     count: usize,
-) -> usize
-    requires { (StretchFits reference.now leftmost aligned)
-        × (before ≤ place) × (place < aligned) × (code < 4) × (count ≤ max_entries)
-        × (max_entries ≤ length list.old) }
-    ensures { EntriesPut list.old list.new count
-        (entries_between reference.now forward leftmost aligned before place code) result }
+) -> Option<usize>
+    requires { (before ≤ place) × (place < length aligned.now.letters.now) × (code < 4)
+        × (count ≤ max_entries) × (max_entries ≤ length list.old) }
+    ensures { EntriesPut list.old list.new count (entries_to aligned.now before place code)
+        result }
 {
     let gap = place - before;
     let fillers = filler_count(gap);
     if MAX_ENTRIES <= count + fillers {
-        return MAX_ENTRIES + 1;
+        return None;
     }
-    put_fillers(
-        reference, forward, leftmost, aligned, before, fillers, list, count,
-    );
+    put_fillers(aligned, before, fillers, list, count);
     list[count + fillers] = entry_byte(gap - MAX_ENTRY_OFFSET * fillers, code);
-    count + fillers + 1
+    Some(count + fillers + 1)
 }
 
 // How many fillers a gap gets.
 fn filler_count(gap: usize) -> usize
     ensures { result ≡ filler_count gap }
 {
-    if gap == 0 {
-        return 0;
-    }
-    (gap - 1) / MAX_ENTRY_OFFSET
+    gap.saturating_sub(1) / MAX_ENTRY_OFFSET
 }
 
 // Writes so many fillers after `before`, each with what the reference gives there, after the first
 // `count` entries of the list.
-fn put_fillers(
-    reference: &[u8],
-    forward: bool,
-    leftmost: usize,
-    aligned: usize,
-    before: usize,
-    fillers: usize,
-    list: &mut [u8],
-    count: usize,
-)
-    requires { (StretchFits reference.now leftmost aligned)
-        × (before + max_entry_offset * fillers < aligned)
+fn put_fillers(aligned: &Aligned, before: usize, fillers: usize, list: &mut [u8], count: usize)
+    requires { (before + max_entry_offset * fillers < length aligned.now.letters.now)
         × (count + fillers ≤ length list.old) }
     ensures { list.new
         ≡ pasted list.old count
-        (map entry_byte (fillers_from
-        (stretch_base reference.now forward leftmost aligned) before fillers)) }
+        (map entry_byte (fillers_from (given_at aligned.now) before fillers)) }
 {
-    let mut j: usize = 0;
-    while j < fillers {
-        let place = before + MAX_ENTRY_OFFSET * (j + 1);
-        let code = expected_code(reference, forward, leftmost, aligned, place);
+    for j in 0..fillers {
+        let code = aligned.expected_code(before + MAX_ENTRY_OFFSET * (j + 1));
         list[count + j] = entry_byte(MAX_ENTRY_OFFSET, code);
-        j += 1;
     }
 }
 

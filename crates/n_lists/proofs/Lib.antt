@@ -1,3 +1,4 @@
 pub mod NPlaceLaws
 pub mod NListLaws
 pub mod WordLaws
+pub mod CountLaws

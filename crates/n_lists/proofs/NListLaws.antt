@@ -16,8 +16,8 @@ use Rattle.dna.specs.Varint16.{varint16_bytes}
 use Rattle.dna.specs.Record.{n_list_bytes}
 use Rattle.dna.proofs.SizeBytesLaws.{length_varint16}
 use Rattle.format.specs.RuleRecord.{n_offsets_of}
-use Rattle.letter_packing.specs.Read.{codes_in}
-use Rattle.letter_packing.proofs.ReadLaws.{length_codes_in}
+use Rattle.letter_packing.specs.Read.{codes_of}
+use Rattle.letter_packing.proofs.ReadLaws.{length_codes_of}
 use Rattle.n_lists.specs.NPlaces.{n_places, NCounted}
 use Rattle.n_lists.proofs.NPlaceLaws.{First, offsets_places, count_offsets}
 
@@ -37,36 +37,36 @@ steps_none before places none = ap (step_bytes before) (no_length_lem places non
 
 -- ---- Writing
 
-module _ (letters : List ℕ) (from to count : ℕ) (fits : NCounted letters from to count) where
+module _ (read : List ℕ) (count : ℕ) (can : NCounted read count) where
   abbrev bytes : List ℕ
-  bytes = n_list_bytes (n_offsets_of (codes_in letters from to))
+  bytes = n_list_bytes (n_offsets_of (codes_of read))
 
-  pub count_places : count ≡ length (n_places letters from to)
+  pub count_places : count ≡ length (n_places read 0 (length read))
   count_places =
-      fits.counted ∙ count_offsets letters from to fits.lies.ordered fits.lies.inside
+      can.counted ∙ count_offsets read
 
   -- The count, then the offsets.
-  list_bytes : bytes ≡ count ∷ step_bytes from (n_places letters from to)
+  list_bytes : bytes ≡ count ∷ step_bytes 0 (n_places read 0 (length read))
   unfolding n_list_bytes
   list_bytes =
-      ap₂ (λ (n : ℕ) (offsets : List ℕ). n ∷ flat_map varint16_bytes offsets) (sym fits.counted)
-      (offsets_places letters from to fits.lies.ordered fits.lies.inside)
+      ap₂ (λ (n : ℕ) (offsets : List ℕ). n ∷ flat_map varint16_bytes offsets) (sym can.counted)
+      (offsets_places read)
 
-  pub length_list : length bytes ≡ 1 + length (step_bytes from (n_places letters from to))
+  pub length_list : length bytes ≡ 1 + length (step_bytes 0 (n_places read 0 (length read)))
   length_list = ap length list_bytes ∙ omega arith
 
   -- The count is written, then the offsets.
   pub list_room : (out : List ℕ) (at : ℕ) → at + length bytes ≤ length out
-      → at + 1 + length (step_bytes from (n_places letters from to)) ≤ length (set out at count)
+      → at + 1 + length (step_bytes 0 (n_places read 0 (length read))) ≤ length (set out at count)
   list_room out at room = simp length-set (omega (arith, length_list))
 
   pub list_end : (out new : List ℕ) (at next : ℕ) → at + length bytes ≤ length out
-      → (new ≡ pasted (set out at count) (at + 1) (step_bytes from (n_places letters from to)))
-      × (next ≡ at + 1 + length (step_bytes from (n_places letters from to)))
+      → (new ≡ pasted (set out at count) (at + 1) (step_bytes 0 (n_places read 0 (length read))))
+      × (next ≡ at + 1 + length (step_bytes 0 (n_places read 0 (length read))))
       → (new ≡ pasted out at bytes) × (next ≡ at + length bytes)
   list_end out new at next room written = (
     pasted_then out (set out at count) new at (at + 1) (count ∷ [])
-        (step_bytes from (n_places letters from to)) (omega (arith, length_list)) refl
+        (step_bytes 0 (n_places read 0 (length read))) (omega (arith, length_list)) refl
         (set_pasted out at count (omega (arith, length_list))) written.0
         ∙ ap (pasted out at) (sym list_bytes),
     omega (arith, written.1, length_list),
@@ -127,18 +127,16 @@ short-steps start low bound (place ∷ places) above near rise =
       short-steps place (suc place) bound places (omega arith) (omega (arith, rise.0)) rise.2,
     )
 
-pub short-list : (letters : List ℕ) (from to count : ℕ) → NCounted letters from to count
-    → to - from ≤ 32768
-    → 1 + 2 * count ≡ length (n_list_bytes (n_offsets_of (codes_in letters from to)))
+pub short-list : (read : List ℕ) (count : ℕ) → NCounted read count → length read ≤ 32768
+    → 1 + 2 * count ≡ length (n_list_bytes (n_offsets_of (codes_of read)))
 unfolding n_list_bytes n_offsets_of
-short-list letters from to count fits short =
-    let codes : List ℕ = codes_in letters from to in
+short-list read count can short =
+    let codes : List ℕ = codes_of read in
     let places : List ℕ = places_where (λ k. eqb (get_or codes k 0) 4) (length codes) in
-    let size : length codes ≡ to - from = length_codes_in letters from to fits.lies.ordered
-    fits.lies.inside in
+    let size : length codes ≡ length read = length_codes_of read in
     omega (
       arith,
-      fits.counted,
+      can.counted,
       length-steps_from 0 places,
       short-steps 0 0 (length codes) places (omega arith) (omega arith)
           (places_rise (λ k. eqb (get_or codes k 0) 4) (length codes)),

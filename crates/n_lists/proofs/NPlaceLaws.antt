@@ -14,8 +14,8 @@ use Rattle.base.proofs.StepsLaws.{length-steps_from}
 use Rattle.dna.specs.Reference.{code_n}
 use Rattle.format.specs.RuleRecord.{n_offsets_of}
 use Rattle.format.specs.RuleBlock.{code_of_letter}
-use Rattle.letter_packing.specs.Read.{codes_in}
-use Rattle.letter_packing.proofs.ReadLaws.{length_codes_in, get_or_codes_in}
+use Rattle.letter_packing.specs.Read.{codes_of}
+use Rattle.letter_packing.proofs.ReadLaws.{length_codes_of, get_or_codes_of}
 use Rattle.n_lists.specs.NPlaces.{n_places}
 
 -- ---- The letter N
@@ -147,42 +147,6 @@ module _ (letters : List ℕ) where
       (λ t. rw t (omega (arith, is ∙ ap (λ (b : Bool). cond b 1 0) t)))
       (λ t. rw t (omega (arith, is ∙ ap (λ (b : Bool). cond b 1 0) t)))
 
-  -- So many letters more.
-  count_split_by : (n from middle to : ℕ) → middle - from ≡ n → from ≤ middle → middle ≤ to
-      → length (n_places letters from to)
-      ≡ length (n_places letters from middle) + length (n_places letters middle to)
-  count_split_by zero from middle to size low high =
-      let here : from ≡ middle = omega arith in
-      ap (λ (i : ℕ). length (n_places letters i to)) here
-      ∙ omega (arith, count_none from middle (omega arith))
-  count_split_by (suc n) from middle to size low high =
-      let ih = count_split_by n (from + 1) middle to (omega arith) (omega arith) high in
-      omega (
-        arith,
-        count_cons from to _ (omega arith) refl,
-        count_cons from middle _ (omega arith) refl,
-      )
-
-  pub count_split : (from middle to : ℕ) → from ≤ middle → middle ≤ to
-      → length (n_places letters from to)
-      ≡ length (n_places letters from middle) + length (n_places letters middle to)
-  count_split from middle to low high =
-      count_split_by (middle - from) from middle to refl low high
-
-  one_small : (t : Bool) → cond t 1 0 ≤ 1
-  one_small true = omega arith
-  one_small false = omega arith
-
-  count_below_by : (n from to : ℕ) → to - from ≡ n → length (n_places letters from to) ≤ n
-  count_below_by zero from to size = omega (arith, count_none from to (omega arith))
-  count_below_by (suc n) from to size =
-      let ih = count_below_by n (from + 1) to (omega arith) in
-      omega (arith, count_cons from to _ (omega arith) refl, one_small (is_n from))
-
-  -- There are no more than letters.
-  pub count_below : (from to : ℕ) → length (n_places letters from to) ≤ to - from
-  count_below from to = count_below_by (to - from) from to refl
-
 -- ---- The offsets of the list
 
 keep_shift : (n shift : ℕ) (f : ℕ → ℕ) (test test' : ℕ → Bool)
@@ -204,24 +168,26 @@ steps_shift shift start (place ∷ places) =
     let same : shift + place - (shift + start) ≡ place - start = omega arith in
     ap₂ ◌∷◌ same (steps_shift shift place places)
 
-module _ (letters : List ℕ) (from to : ℕ) (order : from ≤ to) (inside : to ≤ length letters) where
+module _ (read : List ℕ) where
   -- The steps to the places are the offsets.
-  pub offsets_places :
-      n_offsets_of (codes_in letters from to) ≡ steps_from from (n_places letters from to)
+  pub offsets_places : n_offsets_of (codes_of read) ≡ steps_from 0 (n_places read 0 (length read))
   unfolding n_offsets_of places_where n_places
   offsets_places =
-      let codes : List ℕ = codes_in letters from to in
-      let zero' : from + 0 ≡ from = omega arith in
+      let codes : List ℕ = codes_of read in
+      let size : length codes ≡ length read - 0 = omega (arith, length_codes_of read) in
+      let none : 0 + 0 ≡ 0 = omega arith in
       ap
       (λ (n : ℕ). steps_from 0 (keep (λ k. eqb (get_or codes k 0) 4) (build n (λ k. k))))
-      (length_codes_in letters from to order inside)
-      ∙ sym (steps_shift from 0 (keep (λ k. eqb (get_or codes k 0) 4) (build (to - from) (λ k. k))))
-      ∙ ap₂ steps_from zero'
+      size
+      ∙ sym (steps_shift 0 0 (keep (λ k. eqb (get_or codes k 0) 4) (build (length read - 0) (λ k. k))))
+      ∙ ap₂ steps_from none
       (sym
-      (keep_shift (to - from) from (λ k. k) (λ k. eqb (get_or codes k 0) 4)
-      (λ i. eqb (code_of_letter (get_or letters i 0)) 4)
-      (λ k h. ap (λ (c : ℕ). eqb c 4) (sym (get_or_codes_in letters from to order inside k h)))))
+      (keep_shift (length read - 0) 0 (λ k. k) (λ k. eqb (get_or codes k 0) 4)
+      (λ i. eqb (code_of_letter (get_or read i 0)) 4)
+      (λ k h.
+      let there : 0 + k ≡ k = omega arith in
+      ap (λ (i : ℕ). eqb (code_of_letter (get_or read i 0)) 4) there
+      ∙ ap (λ (c : ℕ). eqb c 4) (sym (get_or_codes_of read k (omega arith))))))
 
-  pub count_offsets :
-      length (n_offsets_of (codes_in letters from to)) ≡ length (n_places letters from to)
-  count_offsets = ap length offsets_places ∙ length-steps_from from (n_places letters from to)
+  pub count_offsets : length (n_offsets_of (codes_of read)) ≡ length (n_places read 0 (length read))
+  count_offsets = ap length offsets_places ∙ length-steps_from 0 (n_places read 0 (length read))

@@ -2,7 +2,7 @@
 use mathlib.Core.Path.{◌≡◌, refl, sym}
 use mathlib.Core.Bool.{true, false}
 use mathlib.Core.List.{List}
-use Prim.Native.Nat.{ℕ, zero, suc, ◌+◌, ◌≤◌, ◌<◌}
+use Prim.Native.Nat.{ℕ, zero, suc, ◌+◌, ◌<◌}
 use native.Mathlib.Nat.{zero-add}
 use native.Mathlib.Omega.{arith}
 use lib.ListN.{length}
@@ -17,30 +17,27 @@ use Rattle.tokens.specs.ColumnsAt.{table_invalid}
 use Rattle.tokens.specs.NamesAt.{columns_invalid, names_invalid, names_read}
 use Rattle.names.specs.Cursors.{TableFits}
 use Rattle.names.specs.Judged.{judged, judged_from}
-use Rattle.names.specs.declared.NamesJudged.TheVariants as names
+use Rattle.std.specs.Prelude.{Some, None}
 
 -- A table that is not wrong.
-pub table_fits : (section : List ℕ) (columns places values : ℕ)
-    → table_invalid section columns ≡ false → max_name ≤ places → max_name ≤ values
-    → TableFits section columns places values
+pub table_fits : (section : List ℕ) (columns : ℕ) → table_invalid section columns ≡ false
+    → TableFits section columns
 unfolding table_invalid
-table_fits section columns places values e room room' =
+table_fits section columns e =
     let cut = or-neither (ltb (length section) 4) _ e in
     let none = or-neither (eqb columns 0) _ cut.1 in
     let many = or-neither (ltb max_name columns) _ none.1 in
     let short = or-neither (ltb (length section) (table_end columns)) _ many.1 in
     let kinds = or-neither (any kind_invalid (part section 4 columns)) _ short.1 in
-    let few : columns ≤ max_name = ltb-false max_name columns many.0 in
     record {
       some =
           by_order 0 columns (λ h. h)
           (λ h. let z : columns ≡ 0 = omega arith in absurd (eqb-false columns 0 none.0 z));
-      few = few;
+      few = ltb-false max_name columns many.0;
+      kinds = kinds.0;
       sizes =
           eqb-true (table_end columns + total (column_sizes section columns)) (length section)
           (not-false _ kinds.1);
-      places_room = omega arith;
-      values_room = omega arith;
     }
 
 -- Without four bytes there is no table.
@@ -52,7 +49,7 @@ table-cut section columns h = simp (lt-ltb (length section) 4 h)
 module _ (section : List ℕ) (columns : ℕ) (is : columns ≡ column_count section) where
   -- A section of a wrong table.
   pub judged_refused : (reads : ℕ) → (reads ≡ 0 → ⊥) → table_invalid section columns ≡ true
-      → judged reads section ≡ names.Invalid
+      → judged reads section ≡ None
   unfolding judged names_invalid columns_invalid
   judged_refused zero some e = absurd (some refl)
   judged_refused (suc reads) some e = simp (sym is, e)

@@ -1,11 +1,12 @@
 pub mod StringLaws
 pub mod RisingLaws
-pub mod MovedLaws
 pub mod RowLaws
-pub mod TableLaws
-pub mod ArrayLaws
 pub mod RowsLaws
-pub mod JudgeLaws
+pub mod KindLaws
+pub mod MovedLaws
 pub mod CopyLaws
+pub mod WalkLaws
+pub mod TableLaws
 pub mod PutLaws
 pub mod PutRowsLaws
+pub mod JudgeLaws

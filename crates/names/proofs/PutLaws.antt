@@ -1,24 +1,24 @@
 -- What a token that is right is made of, and what writing tokens makes of a row. Assumes nothing.
-use mathlib.Core.Path.{◌≡◌, sym, ap, ◌∙◌}
+use mathlib.Core.Path.{◌≡◌, ap, ◌∙◌}
 use mathlib.Core.Bool.{Bool, true, false}
 use mathlib.Core.List.{List, [], ◌++◌, flatten}
 use Prim.Native.Nat.{ℕ, ◌+◌, ◌≤◌, ◌<◌}
 use native.Mathlib.Omega.{arith}
-use lib.ListN.{length, drop}
+use lib.ListN.{length, get_or, drop, drop_of_length-le}
 use lib.Seq.{length-take-le}
 use borrow.Author.Tests.{eq-eqb, ne_eqb}
 use Rattle.base.specs.Lists.{any, part, member, index_of}
 use Rattle.base.specs.Decimal.{decimal}
 use Rattle.base.proofs.Tests.{not-false, any_none}
-use Rattle.base.proofs.ListLaws.{get_or-build}
 use Rattle.base.proofs.IndexLaws.{index-found}
 use Rattle.tokens.specs.Columns.{max_number}
 use Rattle.tokens.specs.ColumnsAt.{Cursor, string_length, token_at, token_invalid, number_invalid}
 use Rattle.tokens.specs.ColumnsAt.{number_at}
 use Rattle.tokens.specs.NamesAt.{row_at}
-use Rattle.names.specs.Cursors.{cursor_of, cursors_of, number_or}
+use Rattle.std.specs.Prelude.{Some}
+use Rattle.names.specs.Cursors.{next_number}
 use Rattle.names.proofs.RisingLaws.{number_right}
-use Rattle.names.proofs.ArrayLaws.{cursors_from, cursors_none, length_cursors}
+use Rattle.names.proofs.WalkLaws.{no_cursor, cursors_from}
 
 module _ (section : List ℕ) (first : Bool) (cursor : Cursor)
     (right : token_invalid section first cursor ≡ false) where
@@ -58,45 +58,36 @@ module _ (section : List ℕ) (first : Bool) (cursor : Cursor)
     number_is = simp (ne_eqb cursor.kind 0 numbers)
 
     -- It is what code reads.
-    pub number_read : number_or section first cursor ≡ number_at section first cursor
-    unfolding number_or
+    pub number_read : next_number section first cursor ≡ Some (number_at section first cursor)
+    unfolding next_number
     number_read = simp number_valid
 
     -- It is not above the largest.
     pub number_small : number_at section first cursor ≤ max_number
     number_small = (number_right section first cursor number_valid).1
 
--- ---- A row, from column k on
+-- ---- A row, from a column on
 
-module _ (section : List ℕ) (first : Bool) (places values : List ℕ) (columns : ℕ) where
+module _ (section : List ℕ) (first : Bool) (cursors : List Cursor) where
   -- The bytes of the name that are left.
-  abbrev pub name_from : (k : ℕ) → List ℕ
-  name_from k = flatten (row_at section first (drop k (cursors_of section places values columns)))
+  abbrev pub name_from : (at : ℕ) → List ℕ
+  name_from at = flatten (row_at section first (drop at cursors))
 
   -- The next token, and those after it.
-  pub name_split : (k : ℕ) → k < columns
-      → name_from k ≡ token_at section first (cursor_of section places values k) ++ name_from (k + 1)
+  pub name_split : (at : ℕ) → at < length cursors
+      → name_from at ≡ token_at section first (get_or cursors at no_cursor) ++ name_from (at + 1)
   unfolding row_at flatten
-  name_split k h =
-      ap (λ (cs : List Cursor). flatten (row_at section first cs))
-      (cursors_from section places values columns k h)
+  name_split at h =
+      ap (λ (cs : List Cursor). flatten (row_at section first cs)) (cursors_from cursors at no_cursor h)
 
   -- No token is left.
-  pub name_none : (k : ℕ) → columns ≤ k → name_from k ≡ []
+  pub name_none : (at : ℕ) → length cursors ≤ at → name_from at ≡ []
   unfolding row_at flatten
-  name_none k h =
-      ap (λ (cs : List Cursor). flatten (row_at section first cs))
-      (cursors_none section places values columns k h)
+  name_none at h =
+      ap (λ (cs : List Cursor). flatten (row_at section first cs)) (drop_of_length-le cursors h)
 
   -- Each token of a row that is right is right.
-  pub token_right : any (token_invalid section first) (cursors_of section places values columns) ≡
-      false
-      → (k : ℕ) → k < columns
-      → token_invalid section first (cursor_of section places values k) ≡ false
-  unfolding cursors_of
-  token_right none k h =
-      let at : Cursor = cursor_of section places values k in
-      ap (token_invalid section first) (sym (get_or-build columns (cursor_of section places values) k
-      at h))
-      ∙ any_none (token_invalid section first) (cursors_of section places values columns) none k at
-      (omega (arith, length_cursors section places values columns))
+  pub token_right : any (token_invalid section first) cursors ≡ false
+      → (at : ℕ) → at < length cursors
+      → token_invalid section first (get_or cursors at no_cursor) ≡ false
+  token_right none at h = any_none (token_invalid section first) cursors none at no_cursor h

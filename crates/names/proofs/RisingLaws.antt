@@ -8,7 +8,7 @@ use lib.ListN.{length, get_or}
 use lib.IntN.{ℤ, pos, negsuc}
 use lib.Signed.{lt_z}
 use lib.Dec.{ltb, eqb}
-use borrow.Author.Tests.{le-leb, lt-ltb, le-ltb, ltb-false, eq-eqb, ne_eqb}
+use borrow.Author.Tests.{le-leb, lt-ltb, le-ltb, ltb-false, ne_eqb}
 use Rattle.base.specs.Lists.{any}
 use Rattle.base.specs.Numbers.{le, signed, non_negative}
 use Rattle.base.specs.Decimal.{decimal}
@@ -20,11 +20,11 @@ use Rattle.tokens.specs.Columns.{max_number}
 use Rattle.tokens.specs.ColumnsAt.{Cursor, step_width, number_width, start_at, number_at, is_negative}
 use Rattle.tokens.specs.ColumnsAt.{number_invalid, token_at, token_invalid}
 use Rattle.tokens.specs.NamesAt.{nature_wrong}
-use Rattle.names.specs.Cursors.{number_or, token_wrong, token_size}
+use Rattle.std.specs.Prelude.{Option, None, Some}
+use Rattle.names.specs.Cursors.{next_number, token_wrong, token_size}
 
--- What stands for a number that is wrong.
-abbrev pub no_number : ℕ
-no_number = 1_000_000_000_000_000_000
+abbrev none : Option ℕ
+none = None
 
 -- Code compares with 0.
 pub negative_test : (z : ℤ) → is_negative z ≡ lt_z z (pos 0)
@@ -39,47 +39,47 @@ module _ (section : List ℕ) (kind place value : ℕ) where
   at = record { kind = kind; place = place; value = value }
 
   -- The section ends before the start does.
-  pub start_cut : ltb (length section) (place + 8) ≡ true → no_number ≡ number_or section true at
-  unfolding number_or number_invalid number_width
+  pub start_cut : ltb (length section) (place + 8) ≡ true → none ≡ next_number section true at
+  unfolding next_number number_invalid number_width
   start_cut cut = simp cut
 
   module _ (z : ℤ) (whole : ltb (length section) (place + 8) ≡ false)
       (is : z ≡ signed 64 (le 8 section place)) where
     -- The start is negative.
-    pub start_negative : lt_z z (pos 0) ≡ true → no_number ≡ number_or section true at
-    unfolding number_or number_invalid number_width start_at
+    pub start_negative : lt_z z (pos 0) ≡ true → none ≡ next_number section true at
+    unfolding next_number number_invalid number_width start_at
     start_negative t = simp (whole, sym is, negative_test z, t)
 
     -- The start is too large.
     pub start_large : lt_z z (pos 0) ≡ false → max_number < non_negative z
-        → no_number ≡ number_or section true at
-    unfolding number_or number_invalid number_width start_at number_at
+        → none ≡ next_number section true at
+    unfolding next_number number_invalid number_width start_at number_at
     start_large t h = simp (whole, sym is, negative_test z, t, lt-ltb max_number (non_negative z) h)
 
     -- The start is right.
     pub start_found : lt_z z (pos 0) ≡ false → non_negative z ≤ max_number
-        → non_negative z ≡ number_or section true at
-    unfolding number_or number_invalid number_width start_at number_at
+        → Some (non_negative z) ≡ next_number section true at
+    unfolding next_number number_invalid number_width start_at number_at
     start_found t h = simp (whole, sym is, negative_test z, t, le-ltb max_number (non_negative z) h)
 
   -- ---- A step
 
   -- The section ends before the step does.
   pub step_cut : ltb (length section) (place + step_width kind) ≡ true
-      → no_number ≡ number_or section false at
-  unfolding number_or number_invalid number_width
+      → none ≡ next_number section false at
+  unfolding next_number number_invalid number_width
   step_cut cut = simp cut
 
   module _ (step : ℕ) (whole : ltb (length section) (place + step_width kind) ≡ false)
       (is : step ≡ le (step_width kind) section place) where
     -- The sum is too large.
-    pub step_large : max_number < value + step → no_number ≡ number_or section false at
-    unfolding number_or number_invalid number_width number_at
+    pub step_large : max_number < value + step → none ≡ next_number section false at
+    unfolding next_number number_invalid number_width number_at
     step_large h = simp (whole, sym is, lt-ltb max_number (value + step) h)
 
     -- The sum is right.
-    pub step_found : value + step ≤ max_number → value + step ≡ number_or section false at
-    unfolding number_or number_invalid number_width number_at
+    pub step_found : value + step ≤ max_number → Some (value + step) ≡ next_number section false at
+    unfolding next_number number_invalid number_width number_at
     step_found h = simp (whole, sym is, le-ltb max_number (value + step) h)
 
 -- ---- What is read
@@ -97,25 +97,29 @@ module _ (section : List ℕ) (first : Bool) (cursor : Cursor) where
       (ltb max_number (number_at section first cursor)) parts.1 in
       (ltb-false (length section) _ parts.0, ltb-false max_number _ rest.1)
 
-  -- A number that is too large is a wrong one.
-  pub number_refused : max_number < number_or section first cursor
+  -- Where there is none, it is wrong.
+  pub number_refused : next_number section first cursor ≡ None
       → number_invalid section first cursor ≡ true
-  unfolding number_or
-  number_refused h =
+  unfolding next_number
+  number_refused e =
       by_test (number_invalid section first cursor) (λ t. t)
       (λ t.
-      let z : max_number < number_at section first cursor = simp t at h in
-      absurd (omega (arith, (number_right t).1)))
+      let clash : Some (number_at section first cursor) ≡ None = simp t at e in
+      absurd (cc clash))
 
   -- Any other is the number.
-  pub number_found : number_or section first cursor ≤ max_number
-      → (number_invalid section first cursor ≡ false) × (number_at section first cursor ≡ number_or
-      section first cursor)
-  unfolding number_or
-  number_found h =
+  pub number_found : (number : ℕ) → next_number section first cursor ≡ Some number
+      → (number_invalid section first cursor ≡ false)
+      × (number_at section first cursor ≡ number)
+  unfolding next_number
+  number_found number e =
       by_test (number_invalid section first cursor)
-      (λ t. absurd (let z : no_number ≤ max_number = simp t at h in omega arith))
-      (λ t. (t, simp t))
+      (λ t.
+      let clash : none ≡ Some number = simp t at e in
+      absurd (cc clash))
+      (λ t.
+      let same : Some (number_at section first cursor) ≡ Some number = simp t at e in
+      (t, cc same))
 
 digit-digits : (digit : ℕ) → digit < 10 → is_digit (48 + digit) ≡ true
 unfolding is_digit
@@ -148,7 +152,8 @@ first-digit number =
 -- The next token of a column of numbers, where digits should stand.
 pub number-token : (section : List ℕ) (first : Bool) (cursor : Cursor) → (cursor.kind ≡ 0 → ⊥)
     → token_size section first true cursor
-    ≡ cond (number_invalid section first cursor) 0 (length (decimal (number_at section first cursor)))
+    ≡ cond (number_invalid section first cursor) None
+    (Some (length (decimal (number_at section first cursor))))
 unfolding token_size token_wrong token_invalid nature_wrong token_at
 number-token section first cursor some =
     let number : ℕ = number_at section first cursor in
@@ -157,13 +162,13 @@ number-token section first cursor some =
     simp (ne_eqb cursor.kind 0 some, long, digits-digits number, digits-printable number)
     (by_test (number_invalid section first cursor) (λ t. simp t) (λ t. simp t))
 
-refused : (i d p : Bool) (x : ℕ) → d ≡ true → cond (i || (d || p)) 0 x ≡ 0
-refused true d p x e = refl
-refused false d p x e = rw e
+refused : (i d p : Bool) (size : Option ℕ) → d ≡ true → cond (i || (d || p)) None size ≡ None
+refused true d p size e = refl
+refused false d p size e = rw e
 
 -- Where others should stand it is wrong.
 pub number-other : (section : List ℕ) (first : Bool) (cursor : Cursor) → (cursor.kind ≡ 0 → ⊥)
-    → token_size section first false cursor ≡ 0
+    → token_size section first false cursor ≡ None
 unfolding token_size token_wrong token_invalid nature_wrong token_at
 number-other section first cursor some =
     let number : ℕ = number_at section first cursor in
@@ -175,31 +180,8 @@ number-other section first cursor some =
     let long : eqb (length (decimal number)) 0 ≡ false =
     ne_eqb (length (decimal number)) 0 (λ e. omega (arith, decimal-some number)) in
     simp (ne_eqb cursor.kind 0 some, long)
-    (refused (number_invalid section first cursor) (any is_digit (decimal number)) _ (length (decimal
-    number)) some-digit)
-
--- ---- The widths
-
--- Steps of 8 bits.
-pub width8 : (kind : ℕ) → kind ≡ 4 → step_width kind ≡ 1
-unfolding step_width
-width8 kind e = simp (eq-eqb kind 4 e)
-
--- Steps of 16 bits.
-pub width16 : (kind : ℕ) → (kind ≡ 4 → ⊥) → kind ≡ 3 → step_width kind ≡ 2
-unfolding step_width
-width16 kind n e = simp (ne_eqb kind 4 n, eq-eqb kind 3 e)
-
--- Steps of 32 bits.
-pub width32 : (kind : ℕ) → (kind ≡ 4 → ⊥) → (kind ≡ 3 → ⊥) → kind ≡ 5 → step_width kind ≡ 4
-unfolding step_width
-width32 kind n m e = simp (ne_eqb kind 4 n, ne_eqb kind 3 m, eq-eqb kind 5 e)
-
--- Any other type has none.
-pub width-other : (kind : ℕ) → (kind ≡ 4 → ⊥) → (kind ≡ 3 → ⊥) → (kind ≡ 5 → ⊥)
-    → step_width kind ≡ 0
-unfolding step_width
-width-other kind n m o = simp (ne_eqb kind 4 n, ne_eqb kind 3 m, ne_eqb kind 5 o)
+    (refused (number_invalid section first cursor) (any is_digit (decimal number)) _
+    (Some (length (decimal number))) some-digit)
 
 -- A number of one byte is the byte.
 pub one_byte : (section : List ℕ) (place : ℕ) → le 1 section place ≡ get_or section place 0

@@ -9,16 +9,20 @@ use native.Mathlib.Omega.{arith}
 use lib.ListN.{length, get_or, take, drop, length-append, length-take, get_or-append}
 use lib.Seq.{get_or-take, get_or-drop}
 use lib.Dec.{ltb, eqb}
-use borrow.Author.Tests.{lt-ltb, le-ltb, eq-eqb, ne_eqb, eqb-false}
+use borrow.Author.Tests.{lt-ltb, le-ltb, eq-eqb, ne_eqb}
 use Rattle.base.specs.Lists.{any}
 use Rattle.base.proofs.ListLaws.{by_order, by_test}
-use Rattle.base.proofs.Tests.{any_append, or-neither, or_right}
+use Rattle.base.proofs.Tests.{any_append, or_right}
 use Rattle.tokens.specs.Split.{is_digit, is_printable, max_name, name_length_invalid}
 use Rattle.tokens.specs.ColumnsAt.{Cursor, string_length, number_at, token_at, token_invalid}
 use Rattle.tokens.specs.NamesAt.{nature_wrong, split_wrong, name_invalid, row_invalid, row_at}
+use Rattle.std.specs.Prelude.{Option, None, Some}
 use Rattle.names.specs.Cursors.{token_wrong, token_size, row_wrong, row_size, row_size_from}
 use Rattle.names.specs.Cursors.{starts_digits}
 use Rattle.names.proofs.RisingLaws.{first-digit}
+
+abbrev none : Option ℕ
+none = None
 
 module _ (section : List ℕ) (first : Bool) where
   abbrev token : (cursor : Cursor) → List ℕ
@@ -32,63 +36,57 @@ module _ (section : List ℕ) (first : Bool) where
 
   -- ---- A token
 
-  -- A wrong token has the size 0.
-  size_wrong : (digits : Bool) (cursor : Cursor) → token_wrong section first digits cursor ≡ true
-      → token_size section first digits cursor ≡ 0
+  -- Where there is no size, the token is wrong.
+  token_none : (digits : Bool) (cursor : Cursor) → token_size section first digits cursor ≡ None
+      → token_wrong section first digits cursor ≡ true
   unfolding token_size
-  size_wrong digits cursor e = simp e
+  token_none digits cursor e =
+      by_test (token_wrong section first digits cursor) (λ t. t)
+      (λ t. let clash : Some (length (token cursor)) ≡ None = simp t at e in absurd (cc clash))
 
-  -- A right one has its length.
-  size_right : (digits : Bool) (cursor : Cursor) → token_wrong section first digits cursor ≡ false
-      → token_size section first digits cursor ≡ length (token cursor)
+  -- Any size is that of a right token.
+  token_some : (digits : Bool) (size : ℕ) (cursor : Cursor)
+      → token_size section first digits cursor ≡ Some size
+      → (token_wrong section first digits cursor ≡ false) × (length (token cursor) ≡ size)
   unfolding token_size
-  size_right digits cursor e = simp e
-
-  -- A right one is not empty.
-  token_some : (digits : Bool) (cursor : Cursor) → token_wrong section first digits cursor ≡ false
-      → 0 < length (token cursor)
-  unfolding token_wrong nature_wrong
-  token_some digits cursor e =
-      let parts = or-neither (token_invalid section first cursor) _ e in
-      let nature = or-neither (nature_wrong digits (token cursor)) _ parts.1 in
-      let some = or-neither (eqb (length (token cursor)) 0) _ nature.0 in
-      by_order 0 (length (token cursor)) (λ h. h)
-      (λ h.
-      let z : length (token cursor) ≡ 0 = omega arith in
-      absurd (eqb-false (length (token cursor)) 0 some.0 z))
+  token_some digits size cursor e =
+      by_test (token_wrong section first digits cursor)
+      (λ t. let clash : none ≡ Some size = simp t at e in absurd (cc clash))
+      (λ t. let same : Some (length (token cursor)) ≡ Some size = simp t at e in (t, cc same))
 
   -- ---- One column more
 
   module _ (digits : Bool) (size : ℕ) (cursor : Cursor) (cursors : List Cursor) where
     -- Its token is wrong.
-    pub step-wrong : token_size section first digits cursor ≡ 0
-        → row_size_from section first digits size (cursor ∷ cursors) ≡ 0
+    pub step-wrong : token_size section first digits cursor ≡ None
+        → row_size_from section first digits size (cursor ∷ cursors) ≡ None
     unfolding row_size_from
-    step-wrong e = simp (eq-eqb (token_size section first digits cursor) 0 e)
+    step-wrong e = simp (token_none digits cursor e)
 
     -- With its token the name is too long.
-    pub step_long : (token_size section first digits cursor ≡ 0 → ⊥)
-        → max_name < size + token_size section first digits cursor
-        → row_size_from section first digits size (cursor ∷ cursors) ≡ 0
+    pub step_long : (more : ℕ) → token_size section first digits cursor ≡ Some more
+        → max_name < size + more → row_size_from section first digits size (cursor ∷ cursors) ≡ None
     unfolding row_size_from
-    step_long some h =
+    step_long more e h =
+        let right = token_some digits more cursor e in
         simp (
-          ne_eqb (token_size section first digits cursor) 0 some,
-          lt-ltb max_name (size + token_size section first digits cursor) h,
+          right.0,
+          lt-ltb max_name (size + length (token cursor)) (omega (arith, right.1)),
         )
 
     -- Its token is right.
-    pub step_right : (token_size section first digits cursor ≡ 0 → ⊥)
-        → size + token_size section first digits cursor ≤ max_name
+    pub step_right : (more : ℕ) → token_size section first digits cursor ≡ Some more
+        → size + more ≤ max_name
         → row_size_from section first digits size (cursor ∷ cursors)
-        ≡ row_size_from section first (not digits) (size + token_size section first digits cursor)
-        cursors
+        ≡ row_size_from section first (not digits) (size + more) cursors
     unfolding row_size_from
-    step_right some h =
+    step_right more e h =
+        let right = token_some digits more cursor e in
         simp (
-          ne_eqb (token_size section first digits cursor) 0 some,
-          le-ltb max_name (size + token_size section first digits cursor) h,
+          right.0,
+          le-ltb max_name (size + length (token cursor)) (omega (arith, right.1)),
         )
+        (ap (λ (n : ℕ). row_size_from section first (not digits) (size + n) cursors) right.1)
 
   -- ---- The tests of a row
 
@@ -141,7 +139,7 @@ module _ (section : List ℕ) (first : Bool) where
 
   row_none : (digits : Bool) (size : ℕ) → size ≤ max_name
       → row_size_from section first digits size []
-      ≡ cond (wrong_from digits size []) 0 (size + length (name []))
+      ≡ cond (wrong_from digits size []) None (Some (size + length (name [])))
   unfolding row_size_from any row_at flatten split_wrong
   row_none digits size h = simp (add-zero, le-ltb max_name size h)
 
@@ -154,38 +152,34 @@ module _ (section : List ℕ) (first : Bool) where
   -- What the loop finds.
   row_from_lem : (cursors : List Cursor) (digits : Bool) (size : ℕ) → size ≤ max_name
       → row_size_from section first digits size cursors
-      ≡ cond (wrong_from digits size cursors) 0 (size + length (name cursors))
+      ≡ cond (wrong_from digits size cursors) None (Some (size + length (name cursors)))
+  unfolding row_size_from
   row_from_lem [] digits size h = row_none digits size h
   row_from_lem (cursor ∷ cursors) digits size h =
       let t : ℕ = length (token cursor) in
       let ih : size + t ≤ max_name → row_size_from section first (not digits) (size + t) cursors
-      ≡ cond (wrong_from (not digits) (size + t) cursors) 0 (size + t + length (name cursors)) =
+      ≡ cond (wrong_from (not digits) (size + t) cursors) None (Some (size + t + length (name cursors))) =
       row_from_lem cursors (not digits) (size + t) in
       let split = wrong_cons digits size cursor cursors in
-      let end : ℕ = size + length (name (cursor ∷ cursors)) in
+      let end : Option ℕ = Some (size + length (name (cursor ∷ cursors))) in
       by_test (token_wrong section first digits cursor)
       (λ wrong.
       let all : wrong_from digits size (cursor ∷ cursors) ≡ true =
       split ∙ ap (λ (x : Bool). x || wrong_from (not digits) (size + t) cursors) wrong in
-      step-wrong digits size cursor cursors (size_wrong digits cursor wrong)
-      ∙ sym (ap (λ (x : Bool). cond x 0 end) all))
+      simp wrong (sym (ap (λ (x : Bool). cond x None end) all)))
       (λ right.
-      let is : token_size section first digits cursor ≡ t = size_right digits cursor right in
-      let some : 0 < t = token_some digits cursor right in
-      let none : token_size section first digits cursor ≡ 0 → ⊥ = λ e. omega arith in
       let all : wrong_from digits size (cursor ∷ cursors) ≡ wrong_from (not digits) (size + t)
       cursors =
       split ∙ ap (λ (x : Bool). x || wrong_from (not digits) (size + t) cursors) right in
       by_order max_name (size + t)
       (λ long.
-      step_long digits size cursor cursors none (omega arith)
-      ∙ sym (ap (λ (x : Bool). cond x 0 end) (all ∙ wrong_long (not digits) (size + t) cursors
-      long)))
+      simp (right, lt-ltb max_name (size + t) long)
+      (sym (ap (λ (x : Bool). cond x None end) (all ∙ wrong_long (not digits) (size + t) cursors
+      long))))
       (λ fits.
-      step_right digits size cursor cursors none (omega arith)
-      ∙ ap (λ (n : ℕ). row_size_from section first (not digits) (size + n) cursors) is
-      ∙ ih fits
-      ∙ ap₂ (λ (x : Bool) (n : ℕ). cond x 0 n) (sym all) (name_cons size cursor cursors)))
+      simp (right, le-ltb max_name (size + t) fits)
+      (ih fits
+      ∙ ap₂ (λ (x : Bool) (n : ℕ). cond x None (Some n)) (sym all) (name_cons size cursor cursors))))
 
   -- ---- The whole row
 
@@ -202,7 +196,7 @@ module _ (section : List ℕ) (first : Bool) where
   unfolding row_at flatten
   first_byte cursor cursors h = get_or-append (token cursor) (name cursors) 0 0 h
 
-  split-wrong : (i s r : Bool) (x : ℕ) → s ≡ true → cond (i || (s || r)) 0 x ≡ 0
+  split-wrong : (i s r : Bool) (x : Option ℕ) → s ≡ true → cond (i || (s || r)) None x ≡ None
   split-wrong true s r x e = refl
   split-wrong false s r x e = rw e
 
@@ -226,14 +220,14 @@ module _ (section : List ℕ) (first : Bool) where
       simp (long, same)
       (ap (λ (n : ℕ). cond (invalid
       || (split_wrong digits (row_at section first all) || (ltb max_name n || unprintable (name
-      all)))) 0 n)
+      all)))) None (Some n))
       (sym (zero-add (length (name all))))
       ∙ sym (row_from_lem all digits 0 (omega arith))))
       (λ none.
-      split-wrong invalid (split_wrong shows (row_at section first all)) _ (length (name all))
+      split-wrong invalid (split_wrong shows (row_at section first all)) _ (Some (length (name all)))
       (empty_first shows cursor cursors none)
       ∙ sym (row_from_lem all digits 0 (omega arith)
-      ∙ split-wrong invalid (split_wrong digits (row_at section first all)) _ (0 + length (name all))
+      ∙ split-wrong invalid (split_wrong digits (row_at section first all)) _ (Some (0 + length (name all)))
       (empty_first digits cursor cursors none)))
 
   -- What the first column says of the row's first byte.

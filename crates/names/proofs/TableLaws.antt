@@ -1,22 +1,25 @@
 -- The table of a section, as code goes through it. Assumes nothing.
-use mathlib.Core.Path.{◌≡◌, sym, ap, ◌∙◌}
+use mathlib.Core.Path.{◌≡◌, refl, sym, ap, ap₂, ◌∙◌}
 use mathlib.Core.Bool.{Bool, true, false, not}
-use mathlib.Core.List.{List, map}
-use Prim.Native.Nat.{ℕ, suc, ◌+◌, ◌*◌, ◌≤◌, ◌<◌}
+use mathlib.Core.List.{List, [], ◌∷◌, ◌++◌, map}
+use Prim.Native.Nat.{ℕ, suc, ◌+◌, ◌-◌, ◌*◌, ◌≤◌, ◌<◌}
 use native.Mathlib.Numerals.{add-one}
 use native.Mathlib.Omega.{arith}
 use lib.ListN.{length, get_or, take, drop, set, get_or-map, length-take, length-drop}
-use lib.Seq.{take_all, get_or-take, get_or-drop, get_or-set_same, get_or-set_other}
+use lib.Seq.{take_all, take-suc, get_or-take, get_or-drop}
+use Rattle.std.specs.Prelude.{slice_range}
+use Rattle.std.proofs.lemmas.List.{take_more_set}
 use lib.Dec.{eqb}
 use borrow.Author.Tests.{eq-eqb, ne_eqb}
 use Rattle.base.specs.Lists.{build, part, any, total}
 use Rattle.base.specs.Numbers.{le}
-use Rattle.base.proofs.ListLaws.{by_order, length-build, get_or-build, build_cong}
+use Rattle.base.proofs.ListLaws.{length-build, get_or-build}
 use Rattle.base.proofs.SumLaws.{total-take-suc, total-take-le}
 use Rattle.base.proofs.AnyLaws.{any_found, any_passed, any_past}
 use Rattle.tokens.specs.ColumnsAt.{Cursor, table_end, column_sizes, first_cursors, column_end}
-use Rattle.tokens.specs.NamesAt.{ends_wrong}
-use Rattle.names.specs.Cursors.{cursor_of, cursors_of, places_wrong, TableFits}
+use Rattle.names.specs.declared.column.Column.{Column}
+use Rattle.names.specs.Cursors.{cursor_of, cursors_of}
+use Rattle.names.proofs.WalkLaws.{no_column, no_cursor, cursor-at}
 
 module _ (section : List ℕ) (columns : ℕ) where
   -- ---- Sizes
@@ -32,21 +35,16 @@ module _ (section : List ℕ) (columns : ℕ) where
   unfolding column_sizes
   length_sizes = length-build columns (λ k. le 8 section (4 + columns + 8 * k))
 
-  size-at : (k : ℕ) → k < columns → get_or sizes k 0 ≡ le 8 section (4 + columns + 8 * k)
-  unfolding column_sizes
-  size-at k h = get_or-build columns (λ k. le 8 section (4 + columns + 8 * k)) k 0 h
-
   -- The first column begins after the table.
   pub place_first : 4 + 9 * columns ≡ place_of 0
   unfolding place_of total
   place_first = omega arith
 
   -- Each column begins where the one before it ends.
-  pub place_next : (k size : ℕ) → k < columns → size ≡ le 8 section (4 + columns + 8 * k)
+  pub place_next : (k size : ℕ) → size ≡ get_or (column_sizes section columns) k 0
       → place_of k + size ≡ place_of (k + 1)
   unfolding place_of
-  place_next k size h e =
-      let one : size ≡ get_or sizes k 0 = e ∙ sym (size-at k h) in
+  place_next k size e =
       let more : total (take (k + 1) sizes) ≡ total (take (suc k) sizes) =
       ap (λ (n : ℕ). total (take n sizes)) (add-one k) in
       omega (arith, total-take-suc sizes k)
@@ -70,6 +68,12 @@ module _ (section : List ℕ) (columns : ℕ) where
 
   -- ---- Kinds
 
+  -- The bytes of the types.
+  pub kinds_range : slice_range section 4 (4 + columns) ≡ part section 4 columns
+  kinds_range =
+      let count : 4 + columns - 4 ≡ columns = omega arith in
+      ap (λ (n : ℕ). take n (drop 4 section)) count
+
   -- There is a type for each column.
   pub length_kinds : 4 + columns ≤ length section → length (part section 4 columns) ≡ columns
   length_kinds h = omega (arith, length-take columns (drop 4 section), length-drop 4 section)
@@ -78,128 +82,87 @@ module _ (section : List ℕ) (columns : ℕ) where
   pub kind_at : (k : ℕ) → k < columns → get_or (part section 4 columns) k 0 ≡ get_or section (4 + k) 0
   kind_at k h = get_or-take columns (drop 4 section) k 0 h ∙ get_or-drop 4 section k 0
 
-  -- ---- The arrays
+  -- ---- The starts
 
-  -- The arrays hold the first places up to column k.
-  pub record Started (k : ℕ) (places values : List ℕ) : Type 0 where
-    pub places_are : (j : ℕ) → j < k → get_or places j 0 ≡ place_of j
-    pub values_are : (j : ℕ) → j < k → get_or values j 0 ≡ 0
+  -- The first place of column k.
+  pub first_at : (k : ℕ) → Cursor
+  first_at k = record { kind = get_or section (4 + k) 0; place = place_of k; value = 0 }
 
-  -- No place is set.
-  pub started_none : (places values : List ℕ) → Started 0 places values
-  started_none places values =
-      record { places_are = λ j h. absurd (omega arith); values_are = λ j h. absurd (omega arith) }
+  firsts : first_cursors section columns ≡ build columns first_at
+  unfolding first_cursors first_at place_of
+  firsts = refl
 
   -- One column more is at its start.
-  pub started_turn : (k place : ℕ) (places values : List ℕ) → Started k places values
-      → k < length places → k < length values → place ≡ place_of k
-      → Started (k + 1) (set places k place) (set values k 0)
-  started_turn k place places values before room room' e =
-      record {
-        places_are = λ j h.
-            by_order j k
-            (λ less.
-            get_or-set_other places k j place 0 (λ same. omega arith) ∙ before.places_are j less)
-            (λ more.
-            let is : j ≡ k = omega arith in
-            ap (λ (i : ℕ). get_or (set places k place) i 0) is
-            ∙ get_or-set_same places k place 0 room
-            ∙ e
-            ∙ ap place_of (sym is));
-        values_are = λ j h.
-            by_order j k
-            (λ less. get_or-set_other values k j 0 0 (λ same. omega arith) ∙ before.values_are j
-            less)
-            (λ more.
-            let is : j ≡ k = omega arith in
-            ap (λ (i : ℕ). get_or (set values k 0) i 0) is ∙ get_or-set_same values k 0 0 room');
-      }
+  pub started_turn : (k : ℕ) (cursors : List Cursor) (cursor : Cursor) → k < columns
+      → k < length cursors
+      → take k cursors ≡ take k (first_cursors section columns)
+      → cursor.kind ≡ get_or section (4 + k) 0 → cursor.place ≡ place_of k → cursor.value ≡ 0
+      → take (k + 1) (set cursors k cursor) ≡ take (k + 1) (first_cursors section columns)
+  unfolding first_at
+  started_turn k cursors cursor h room before kind place value =
+      let all : List Cursor = build columns first_at in
+      let same : cursor ≡ get_or all k cursor =
+      (λ i. record { kind = kind i; place = place i; value = value i })
+      ∙ sym (get_or-build columns first_at k cursor h) in
+      take_more_set cursors k cursor room
+      ∙ ap₂ (λ (l : List Cursor) (c : Cursor). l ++ (c ∷ [])) (before ∙ ap (take k) firsts) same
+      ∙ sym (take-suc all k cursor (omega (arith, length-build columns first_at)))
+      ∙ ap (λ (n : ℕ). take n all) (sym (add-one k))
+      ∙ ap (take (k + 1)) (sym firsts)
 
   -- All columns are at their starts.
-  pub started_all : (k : ℕ) (places values : List ℕ) → columns ≤ k → Started k places values
-      → cursors_of section places values columns ≡ first_cursors section columns
-  unfolding cursors_of cursor_of first_cursors place_of
-  started_all k places values all started =
-      build_cong columns _ _
-      (λ j h i.
-      record {
-        kind = get_or section (4 + j) 0;
-        place = started.places_are j (omega arith) i;
-        value = started.values_are j (omega arith) i;
-      })
+  pub started_all : (k : ℕ) (cursors : List Cursor) → columns ≤ k → length cursors ≡ columns
+      → take k cursors ≡ take k (first_cursors section columns)
+      → cursors ≡ first_cursors section columns
+  started_all k cursors all long started =
+      sym (take_all k cursors (omega arith))
+      ∙ started
+      ∙ take_all k (first_cursors section columns)
+      (omega (arith, ap length firsts, length-build columns first_at))
 
   -- ---- Ends
 
-  -- Column k has not arrived at its end.
-  abbrev pub wrong_at : (places : List ℕ) (k : ℕ) → Bool
-  wrong_at places k = not (eqb (get_or places k 0) (column_end section columns k))
+  module _ (cursors : List Cursor) where
+    -- Column k has not arrived at its end.
+    abbrev pub wrong_at : (k : ℕ) → Bool
+    wrong_at k =
+        not (eqb (get_or (map (λ c. c.place) cursors) k 0) (column_end section columns k))
 
-  -- Which columns have not.
-  abbrev pub wrongs : (places : List ℕ) → List Bool
-  wrongs places = build columns (wrong_at places)
+    -- Which columns have not.
+    abbrev pub wrongs : List Bool
+    wrongs = build columns wrong_at
 
-  module _ (places : List ℕ) (k end : ℕ) (h : k < columns) (is : end ≡ place_of (k + 1)) where
-    inside : k < length (wrongs places)
-    inside = omega (arith, length-build columns (wrong_at places))
+    module _ (k place end : ℕ) (h : k < columns)
+        (there : get_or (map (λ c. c.place) cursors) k 0 ≡ place)
+        (is : end ≡ place_of (k + 1)) where
+      inside : k < length wrongs
+      inside = omega (arith, length-build columns wrong_at)
 
-    here : get_or (wrongs places) k false ≡ not (eqb (get_or places k 0) end)
-    here =
-        get_or-build columns (wrong_at places) k false h
-        ∙ ap (λ (n : ℕ). not (eqb (get_or places k 0) n)) (end_place k ∙ sym is)
+      here : get_or wrongs k false ≡ not (eqb place end)
+      here =
+          get_or-build columns wrong_at k false h
+          ∙ ap₂ (λ (p n : ℕ). not (eqb p n)) there (end_place k ∙ sym is)
 
-    -- Column k has not.
-    pub end_wrong : (get_or places k 0 ≡ end → ⊥)
-        → any (λ wrong. wrong) (drop k (wrongs places)) ≡ true
-    end_wrong other =
-        any_found (λ wrong. wrong) (wrongs places) k false inside
-        (here ∙ ap not (ne_eqb (get_or places k 0) end other))
+      -- Column k has not.
+      pub end_wrong : (place ≡ end → ⊥) → any (λ wrong. wrong) (drop k wrongs) ≡ true
+      end_wrong other =
+          any_found (λ wrong. wrong) wrongs k false inside (here ∙ ap not (ne_eqb place end other))
 
-    -- Column k has.
-    pub end_right : get_or places k 0 ≡ end
-        → any (λ wrong. wrong) (drop k (wrongs places)) ≡ any (λ wrong. wrong) (drop (k + 1)
-        (wrongs places))
-    end_right same =
-        any_passed (λ wrong. wrong) (wrongs places) k false inside
-        (here ∙ ap not (eq-eqb (get_or places k 0) end same))
+      -- Column k has.
+      pub end_right : place ≡ end
+          → any (λ wrong. wrong) (drop k wrongs) ≡ any (λ wrong. wrong) (drop (k + 1) wrongs)
+      end_right same =
+          any_passed (λ wrong. wrong) wrongs k false inside (here ∙ ap not (eq-eqb place end same))
 
-  -- No column is left.
-  pub ends_right : (places : List ℕ) (k : ℕ) → columns ≤ k
-      → any (λ wrong. wrong) (drop k (wrongs places)) ≡ false
-  ends_right places k h =
-      any_past (λ wrong. wrong) (wrongs places) k (omega (
-        arith,
-        length-build columns (wrong_at
-            places),
-      ))
+    -- No column is left.
+    pub ends_right : (k : ℕ) → columns ≤ k → any (λ wrong. wrong) (drop k wrongs) ≡ false
+    ends_right k h =
+        any_past (λ wrong. wrong) wrongs k (omega (arith, length-build columns wrong_at))
 
-  place-of : (places values : List ℕ) (k : ℕ) → k < columns
-      → get_or (map (λ c. c.place) (cursors_of section places values columns)) k 0 ≡ get_or places k 0
-  unfolding cursors_of cursor_of
-  place-of places values k h =
-      let none : Cursor = record { kind = 0; place = 0; value = 0 } in
-      get_or-map (λ (c : Cursor). c.place) (cursors_of section places values columns) k none
-      ∙ ap (λ (c : Cursor). c.place) (get_or-build columns (cursor_of section places values) k none h)
-
-  -- Only the places are compared.
-  pub ends_places : (places values : List ℕ)
-      → ends_wrong section columns (cursors_of section places values columns)
-      ≡ places_wrong section columns places
-  unfolding ends_wrong places_wrong
-  ends_places places values =
-      ap (any (λ (wrong : Bool). wrong))
-      (build_cong columns _ _
-      (λ k h. ap (λ (n : ℕ). not (eqb n (column_end section columns k))) (place-of places values k
-      h)))
-
--- Arrays of other lengths that suffice.
-pub fits-other : {section : List ℕ} {columns places values : ℕ} (places' values' : ℕ)
-    → TableFits section columns places values → columns ≤ places' → columns ≤ values'
-    → TableFits section columns places' values'
-fits-other places' values' fits room room' =
-    record {
-      some = fits.some;
-      few = fits.few;
-      sizes = fits.sizes;
-      places_room = room;
-      values_room = room';
-    }
+-- The place of column k.
+pub place-at : (list : List Column) (k : ℕ)
+    → get_or (map (λ c. c.place) (cursors_of list)) k 0 ≡ (get_or list k no_column).place
+unfolding cursor_of
+place-at list k =
+    get_or-map (λ (c : Cursor). c.place) (cursors_of list) k no_cursor
+    ∙ ap (λ (c : Cursor). c.place) (sym (cursor-at list k))

@@ -1,3 +1,2 @@
 pub mod Cursors
 pub mod Judged
-pub mod Digits

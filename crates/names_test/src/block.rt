@@ -125,12 +125,6 @@ fn put_bytes_at(bytes: &[u8], out: &mut [u8], at: usize) {
     if out.len() < at {
         return;
     }
-    let mut i: usize = 0;
-    while i < bytes.len() {
-        if out.len() - at <= i {
-            return;
-        }
-        out[at + i] = bytes[i];
-        i += 1;
-    }
+    let count = bytes.len().min(out.len() - at);
+    out[at..at + count].copy_from_slice(&bytes[..count]);
 }

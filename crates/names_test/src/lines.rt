@@ -1,5 +1,4 @@
 // What is printed: text, and words and numbers with a space before each.
-use integers::{wide16, wide32, wide64};
 use std::io;
 
 pub fn put_text(rt: &impl Print, text: &[u8]) -> io::Result<()> {
@@ -16,19 +15,15 @@ pub fn put_number(rt: &impl Print, number: u64) -> io::Result<()> {
 }
 
 pub fn put_bytes(rt: &impl Print, bytes: &[u8]) -> io::Result<()> {
-    let mut i: usize = 0;
-    while i < bytes.len() {
-        put_number(rt, wide64(wide32(wide16(bytes[i]))))?;
-        i += 1;
+    for byte in bytes {
+        put_number(rt, u64::from(*byte))?;
     }
     Ok(())
 }
 
 pub fn put_numbers(rt: &impl Print, numbers: &[u32]) -> io::Result<()> {
-    let mut i: usize = 0;
-    while i < numbers.len() {
-        put_number(rt, wide64(numbers[i]))?;
-        i += 1;
+    for number in numbers {
+        put_number(rt, u64::from(*number))?;
     }
     Ok(())
 }

@@ -29,9 +29,9 @@ pub struct Room {
 
 pub fn room_of(letters: usize, names: usize, name_ends: usize) -> Room {
     Room {
-        letters: letters,
-        names: names,
-        name_ends: name_ends,
+        letters,
+        names,
+        name_ends,
     }
 }
 
@@ -121,23 +121,9 @@ pub fn put_buffers(rt: &impl Print, bytes: &[u8], ends: &[u32]) -> io::Result<()
 }
 
 pub fn bytes_untouched(bytes: &[u8]) -> bool {
-    let mut i: usize = 0;
-    while i < bytes.len() {
-        if bytes[i] != UNTOUCHED_BYTE {
-            return false;
-        }
-        i += 1;
-    }
-    true
+    bytes.iter().all(|byte| *byte == UNTOUCHED_BYTE)
 }
 
 fn ends_untouched(ends: &[u32]) -> bool {
-    let mut i: usize = 0;
-    while i < ends.len() {
-        if ends[i] != UNTOUCHED_END {
-            return false;
-        }
-        i += 1;
-    }
-    true
+    ends.iter().all(|end| *end == UNTOUCHED_END)
 }

@@ -4,9 +4,8 @@ ghost use Rattle.std.specs.Prelude.{◌≡◌, length};
 use crate::lines::{end_line, put_bytes, put_number, put_text};
 use crate::parts::{bytes_from, first_bytes};
 use crate::show::{UNTOUCHED_BYTE, UNTOUCHED_END, bytes_untouched, put_buffers};
-use format::{BlockOutcome, EncodeOutcome};
+use dna::refusals::Refusal;
 use header::sections::NAMES_SECTION;
-use integers::{size8, wide64};
 use std::io;
 
 // The most bytes that a block and its names take.
@@ -78,8 +77,8 @@ pub fn put_call(
         0,
         out,
     ) {
-        EncodeOutcome::Written(bytes) => put_block(rt, bytes, out, names.len())?,
-        EncodeOutcome::Refused(number) => put_refusal(rt, number, out)?,
+        Ok(bytes) => put_block(rt, bytes, out, names.len())?,
+        Err(refusal) => put_refusal(rt, refusal, out)?,
     }
     end_line(rt)
 }
@@ -104,7 +103,7 @@ fn types_of(section: &[u8]) -> &[u8] {
     if section.len() < TYPES_START {
         return section;
     }
-    let count = size8(section[0]);
+    let count = usize::from(section[0]);
     first_bytes(bytes_from(section, TYPES_START), count)
 }
 
@@ -136,18 +135,18 @@ fn read_names(rt: &impl Print, input: &[u8], names: &mut [u8]) -> io::Result<()>
         names,
         &mut name_ends,
     ) {
-        BlockOutcome::Accepted(_, _) => put_buffers(rt, names, &name_ends),
-        BlockOutcome::Refused(number, read) => {
+        Ok(_) => put_buffers(rt, names, &name_ends),
+        Err(refused) => {
             put_text(rt, b", refused")?;
-            put_number(rt, wide64(number))?;
-            put_number(rt, read)
+            put_number(rt, u64::from(refused.refusal.number()))?;
+            put_number(rt, refused.read)
         }
     }
 }
 
-fn put_refusal(rt: &impl Print, number: u32, out: &[u8]) -> io::Result<()> {
+fn put_refusal(rt: &impl Print, refusal: Refusal, out: &[u8]) -> io::Result<()> {
     put_text(rt, b": refused")?;
-    put_number(rt, wide64(number))?;
+    put_number(rt, u64::from(refusal.number()))?;
     if bytes_untouched(out) {
         return put_text(rt, b", untouched");
     }

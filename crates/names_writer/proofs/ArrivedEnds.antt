@@ -1,7 +1,7 @@
 -- A section before its first row and after its last. Assumes nothing.
 use mathlib.Core.Path.{◌≡◌, refl, sym, ap, subst, ◌∙◌}
 use Prim.Native.Nat.{ℕ, ◌+◌, ◌≤◌, ◌<◌}
-use native.Mathlib.Nat.{zero-add, not-suc-le-zero}
+use native.Mathlib.Nat.{zero-add}
 use native.Mathlib.Omega.{arith}
 use mathlib.Core.List.{List, [], ◌∷◌, ◌++◌, map, flat_map, flatten}
 use lib.ListN.{length, get_or, take, drop, length-append, length-drop, length-map}
@@ -15,10 +15,13 @@ use Rattle.base.proofs.AtPasteLaws.{at_flatten}
 use Rattle.base.proofs.SumLaws.{total-take-le}
 use Rattle.tokens.specs.Columns.{Column, column_bytes}
 use Rattle.tokens.specs.WrittenNames.{column_for, columns_for, token_count, tokens_at}
-use Rattle.names_writer.specs.Pieces.{start_places}
+use Rattle.std.proofs.Common.{None}
+use Rattle.names_writer.specs.declared.pieces.Cursor.{Cursor}
+use Rattle.names_writer.specs.Measured.{last_number}
+use Rattle.names_writer.specs.Pieces.{cursor_at, place_of, Started}
 use Rattle.names_writer.specs.Arrived.{pieces_of, part_bytes, column_part, column_lengths}
 use Rattle.names_writer.specs.Arrived.{column_start, columns_end, Arrived}
-use Rattle.names_writer.proofs.MeasuredLaws.{length_column, table_at}
+use Rattle.names_writer.proofs.MeasuredLaws.{length_column}
 use Rattle.names_writer.proofs.TableLaws.{columns_map, count_columns, length-columns}
 use Rattle.names_writer.proofs.ColumnPieceLaws.{pieces-joined, part_none, count_pieces}
 use Rattle.names_writer.proofs.ColumnStartLaws.{count_lengths, columns_inside}
@@ -78,11 +81,11 @@ lengths-map (column ∷ columns) =
     ap (λ (rest : List ℕ). length (column_bytes column) ∷ rest) (lengths-map columns)
 
 -- The columns stand one after the other.
-columns-stand : (names : List (List ℕ)) (front back values places new : List ℕ)
-    → Arrived names front back (length names) values places new → 0 < length names
+columns-stand : (names : List (List ℕ)) (front back : List ℕ) (cursors : List Cursor) (new : List ℕ)
+    → Arrived names front back (length names) cursors new → 0 < length names
     → At new (length front) (flat_map column_bytes (columns_for names))
 unfolding column_start columns_end
-columns-stand names front back values places new so some =
+columns-stand names front back cursors new so some =
     let parts : List (List ℕ) = map column_bytes (columns_for names) in
     let count : length parts ≡ token_count names =
     length-map (columns_for names) column_bytes ∙ count_columns names in
@@ -106,16 +109,18 @@ module _ (names : List (List ℕ)) (start : ℕ) (out : List ℕ)
   unfolding columns_end
   front_length = length-take-le start out (omega arith)
 
-  pub arrived_start : (values places : List ℕ)
-      → ((k : ℕ) → k < token_count names → get_or places k 0 ≡ column_start start names k)
-      → Arrived names (take start out) (drop (columns_end start names) out) 0 values places out
-  unfolding column_part columns_end
-  arrived_start values places there =
+  pub arrived_start : (cursors : List Cursor) → length cursors ≡ token_count names
+      → ((k : ℕ) → k < token_count names → (cursor_at cursors k).last ≡ None)
+      → ((k : ℕ) → k < token_count names → place_of cursors k ≡ column_start start names k)
+      → Arrived names (take start out) (drop (columns_end start names) out) 0 cursors out
+  unfolding column_part columns_end last_number
+  arrived_start cursors counted first there =
       let low = front_length in
       let none : (k : ℕ) → length (column_part names k 0) ≡ 0 =
       λ k. ap length (part_none (column_for (tokens_at names k))) in
       record {
-        value = λ k h some. absurd (not-suc-le-zero some);
+        counted = counted;
+        last = first;
         place = λ k h.
             there k h
             ∙ ap (λ (b : ℕ). column_start b names k) (sym low)
@@ -136,12 +141,11 @@ module _ (names : List (List ℕ)) (start : ℕ) (out : List ℕ)
 
   -- ---- After the last row
 
-  pub arrived_end : (values places new : List ℕ)
-      → Arrived names (take start out) (drop (columns_end start names) out) (length names) values
-      places new
+  pub arrived_end : (cursors : List Cursor) (new : List ℕ)
+      → Arrived names (take start out) (drop (columns_end start names) out) (length names) cursors new
       → 0 < length names → new ≡ pasted out start (flat_map column_bytes (columns_for names))
   unfolding pasted
-  arrived_end values places new so some =
+  arrived_end cursors new so some =
       let front : List ℕ = take start out in
       let back : List ℕ = drop (columns_end start names) out in
       let columns : List ℕ = flat_map column_bytes (columns_for names) in
@@ -150,7 +154,7 @@ module _ (names : List (List ℕ)) (start : ℕ) (out : List ℕ)
       let one : At new 0 (front ++ columns) =
       at_both front columns so.before
       (at-to (length front) (0 + length front) (omega arith)
-      (columns-stand names front back values places new so some)) in
+      (columns-stand names front back cursors new so some)) in
       let whole : At new 0 ((front ++ columns) ++ back) =
       at_both (front ++ columns) back one
       (at-to (columns_end (length front) names) (0 + length (front ++ columns))
@@ -184,11 +188,10 @@ module _ (names : List (List ℕ)) (sizes : List ℕ) (sized : At sizes 0 (colum
         length-columns (columns_for names),
       )
 
-  pub starts_there : (places places' : List ℕ) → count ≤ length places
-      → places' ≡ pasted places 0 (start_places start sizes count) → (k : ℕ) → k < token_count names
-      → get_or places' k 0 ≡ column_start start names k
-  unfolding start_places column_start
-  starts_there places places' room e k h =
-      table_at places places' (λ j. start + total (take j sizes)) count k room e (omega arith)
+  pub starts_there : (cursors : List Cursor) → length cursors ≡ count → Started start sizes cursors
+      → (k : ℕ) → k < token_count names → place_of cursors k ≡ column_start start names k
+  unfolding column_start
+  starts_there cursors all started k h =
+      started.place k (omega arith)
       ∙ ap (λ (l : List ℕ). start + total l)
       (take-stands sizes (column_lengths names) sized k (omega (arith, count_lengths names)))

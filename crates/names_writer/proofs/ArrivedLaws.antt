@@ -1,23 +1,25 @@
 -- A section with one row more. Assumes nothing.
 use mathlib.Core.Path.{◌≡◌, sym, ap, subst, ◌∙◌}
-use Prim.Native.Nat.{ℕ, ◌+◌, ◌-◌, ◌≤◌, ◌<◌}
+use Prim.Native.Nat.{ℕ, ◌+◌, ◌≤◌, ◌<◌}
 use native.Mathlib.Nat.{zero-add}
 use native.Mathlib.Omega.{arith}
 use mathlib.Core.List.{List, [], ◌++◌, map}
 use lib.ListN.{length, get_or, length-append}
-use lib.Dec.{eqb}
+use native.Mathlib.Numerals.{add-one}
 use Rattle.base.specs.Lists.{build}
-use Rattle.base.specs.Paste.{pasted}
 use Rattle.base.specs.Place.{At}
 use Rattle.base.proofs.ListLaws.{length-build, get_or-build}
 use Rattle.tokens.specs.Columns.{column_type}
 use Rattle.tokens.specs.WrittenNames.{column_for, columns_for, token_count, tokens_at}
-use Rattle.names_writer.specs.Steps.{number_of}
-use Rattle.names_writer.specs.Rows.{token_of, row_numbers}
-use Rattle.names_writer.specs.Pieces.{piece_of, row_piece, written, PiecesFit, next_places}
+use Rattle.names_writer.specs.declared.pieces.Cursor.{Cursor}
+use Rattle.names_writer.specs.Steps.{token_number}
+use Rattle.names_writer.specs.Rows.{token_of}
+use Rattle.names_writer.specs.Measured.{last_number}
+use Rattle.names_writer.specs.Pieces.{cursor_at, place_of, piece_of, row_piece, written}
+use Rattle.names_writer.specs.Pieces.{PiecesFit, RowMoved}
 use Rattle.names_writer.specs.Arrived.{pieces_of, column_part, column_lengths, column_start}
 use Rattle.names_writer.specs.Arrived.{columns_end, Arrived}
-use Rattle.names_writer.proofs.MeasuredLaws.{length_column, column_token, table_at}
+use Rattle.names_writer.proofs.MeasuredLaws.{length_column, column_token}
 use Rattle.names_writer.proofs.TableLaws.{columns_map}
 use Rattle.names_writer.proofs.ColumnPieceLaws.{piece_at, count_pieces, part_length, part_more}
 use Rattle.names_writer.proofs.ColumnStartLaws.{length_at, columns_apart, columns_inside}
@@ -37,12 +39,15 @@ kind-stands names kinds stands k h =
     ∙ table.same k (omega (arith, length-build n f))
     ∙ get_or-build n f k 0 h
 
-module _ (names : List (List ℕ)) (front back : List ℕ) (i : ℕ) (values places out : List ℕ)
-    (so : Arrived names front back i values places out) (inside : i < length names)
+module _ (names : List (List ℕ)) (front back : List ℕ) (i : ℕ) (cursors : List Cursor)
+    (out : List ℕ) (so : Arrived names front back i cursors out) (inside : i < length names)
     (kinds : List ℕ) (typed : At kinds 0 (map column_type (columns_for names))) (name : List ℕ)
-    (is : name ≡ get_or names i []) (count : ℕ) (counted : count ≡ token_count names) where
+    (is : name ≡ get_or names i []) where
+  abbrev count : ℕ
+  count = length cursors
+
   abbrev piece : ℕ → List ℕ
-  piece = row_piece (eqb i 0) name kinds values
+  piece = row_piece name kinds cursors
 
   abbrev base : ℕ
   base = length front
@@ -50,10 +55,10 @@ module _ (names : List (List ℕ)) (front back : List ℕ) (i : ℕ) (values pla
   piece_is : (k : ℕ) → k < token_count names
       → piece k ≡ get_or (pieces_of (column_for (tokens_at names k))) i []
   piece_is k h =
-      ap (piece_of (eqb i 0) (get_or kinds k 0) (get_or values k 0))
+      ap (piece_of (cursor_at cursors k).last (get_or kinds k 0))
       (ap (λ (n : List ℕ). token_of n k) is ∙ sym (column_token names i k))
-      ∙ piece_at (tokens_at names k) i (get_or kinds k 0) (get_or values k 0)
-      (omega (arith, length_column names k)) (kind-stands names kinds typed k h) (so.value k h)
+      ∙ piece_at (tokens_at names k) i (get_or kinds k 0) (cursor_at cursors k).last
+      (omega (arith, length_column names k)) (kind-stands names kinds typed k h) (so.last k h)
 
   part_next : (k : ℕ) → k < token_count names
       → column_part names k (i + 1) ≡ column_part names k i ++ piece k
@@ -80,52 +85,48 @@ module _ (names : List (List ℕ)) (front back : List ℕ) (i : ℕ) (values pla
       )
 
   regions : Regions count (column_start base names) (λ k. get_or (column_lengths names) k 0)
-      (columns_end base names) (λ k. get_or places k 0) (λ k. column_part names k i) piece
+      (columns_end base names) (place_of cursors) (λ k. column_part names k i) piece
   regions =
       record {
         apart = λ j k h l. columns_apart names base j k h;
         inside = λ k h. columns_inside names base k;
-        fits = λ k h. part_fits k (omega arith);
-        there = λ k h. so.place k (omega arith);
+        fits = λ k h. part_fits k (omega (arith, so.counted));
+        there = λ k h. so.place k (omega (arith, so.counted));
       }
 
   room : columns_end base names ≤ length out
   room = omega (arith, so.sized)
 
   -- The row fits.
-  pub row_fits : PiecesFit out (λ k. get_or places k 0) (row_piece (eqb i 0) name kinds values) count
+  pub row_fits : PiecesFit out (place_of cursors) (row_piece name kinds cursors) (length cursors)
   row_fits =
       record {
         each = λ k h.
-            let l : k < token_count names = omega arith in
+            let l : k < token_count names = omega (arith, so.counted) in
             omega (arith, so.place k l, part_fits k l, columns_inside names base k, so.sized);
       }
 
   -- It is written.
-  pub arrived_next : (values' places' out' : List ℕ) → count ≤ length values
-      → count ≤ length places
-      → (values' ≡ pasted values 0 (row_numbers name count))
-      × (places' ≡ pasted places 0 (next_places (eqb i 0) name kinds values places count))
-      × (out' ≡ written out (λ k. get_or places k 0) (row_piece (eqb i 0) name kinds values) count)
-      → Arrived names front back (i + 1) values' places' out'
-  unfolding row_numbers next_places
-  arrived_next values' places' out' values_room places_room done =
-      let back_is : i + 1 - 1 ≡ i = omega arith in
+  pub arrived_next : (cursors' : List Cursor) (out' : List ℕ) → length cursors' ≡ length cursors
+      → RowMoved name kinds cursors cursors'
+      → out' ≡ written out (place_of cursors) (row_piece name kinds cursors) (length cursors)
+      → Arrived names front back (i + 1) cursors' out'
+  unfolding last_number
+  arrived_next cursors' out' same moved done =
       let s : ℕ → ℕ = column_start base names in
       let z : ℕ → ℕ = λ k. get_or (column_lengths names) k 0 in
       let e : ℕ = columns_end base names in
-      let p : ℕ → ℕ = λ k. get_or places k 0 in
+      let p : ℕ → ℕ = place_of cursors in
       let q : ℕ → List ℕ = λ k. column_part names k i in
-      let out-is = sym done.2 in
+      let out-is = sym done in
       record {
-        value = λ k h some.
-            table_at values values' (λ j. number_of (token_of name j)) count k values_room done.0
-            (omega arith)
-            ∙ ap number_of (ap (λ (n : List ℕ). token_of n k) is ∙ sym (column_token names i k))
-            ∙ ap (λ (j : ℕ). number_of (get_or (tokens_at names k) j [])) (sym back_is);
+        counted = same ∙ so.counted;
+        last = λ k h.
+            (moved.each k (omega (arith, so.counted))).last
+            ∙ ap token_number (ap (λ (n : List ℕ). token_of n k) is ∙ sym (column_token names i k))
+            ∙ ap (last_number (tokens_at names k)) (sym (add-one i));
         place = λ k h.
-            table_at places places' (λ j. get_or places j 0 + length (piece j)) count k places_room
-            done.1 (omega arith)
+            (moved.each k (omega (arith, so.counted))).place
             ∙ omega (
               arith,
               so.place k h,
@@ -137,16 +138,17 @@ module _ (names : List (List ℕ)) (front back : List ℕ) (i : ℕ) (values pla
             (front_stays count s z e p q piece regions out room 0 front
             (λ k h. omega (arith, starts_low names base k)) so.before count (omega arith));
         column = λ k h.
+            let l : k < count = omega (arith, so.counted) in
             subst (λ (b : List ℕ). At b (s k) (column_part names k (i + 1))) out-is
             (subst (At (written out p piece count) (s k)) (sym (part_next k h))
-            (part_grows count s z e p q piece regions out room k (omega arith) (so.column k h)
-            count (omega arith) (omega arith)));
+            (part_grows count s z e p q piece regions out room k l (so.column k h)
+            count l (omega arith)));
         after =
             subst (λ (b : List ℕ). At b e back) out-is
             (back_stays count s z e p q piece regions out room e back (omega arith) so.after
             count (omega arith));
         sized =
-            ap length done.2
+            ap length done
             ∙ length_written count s z e p q piece regions out room count (omega arith)
             ∙ so.sized;
       }

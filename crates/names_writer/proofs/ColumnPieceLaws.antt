@@ -4,24 +4,23 @@ use Prim.Native.Nat.{ℕ, zero, suc, ◌+◌, ◌-◌, ◌≤◌, ◌<◌}
 use native.Mathlib.Nat.{not-suc-le-zero, le_of_suc-le-suc}
 use native.Mathlib.Numerals.{add-one}
 use native.Mathlib.Omega.{arith}
-use mathlib.Core.Bool.{Bool, true, false, cond}
+use mathlib.Core.Bool.{Bool, true, false, cond, ◌||◌}
+use Rattle.std.proofs.Common.{Option, None, Some}
 use mathlib.Core.List.{List, [], ◌∷◌, ◌++◌, map, flat_map, flatten, append_assoc, append-nil}
 use lib.ListN.{length, get_or, take, drop, length-append, length-map, take-append-drop}
 use lib.ListN.{get_or-map}
 use lib.Seq.{take-suc}
-use lib.Dec.{eqb}
-use borrow.Author.Tests.{ne_eqb}
 use Rattle.base.specs.Lists.{any, steps_from}
 use Rattle.base.specs.Numbers.{le_bytes}
 use Rattle.base.proofs.ListLaws.{get_or-inside}
-use Rattle.base.proofs.Tests.{or-neither}
+use Rattle.base.proofs.Tests.{or-neither, any_none}
 use Rattle.tokens.specs.Columns.{Column, strings, rising, column_type, column_bytes}
-use Rattle.tokens.specs.WrittenNames.{not_number, value_of, steps_invalid, steps_of, width_for}
+use Rattle.tokens.specs.WrittenNames.{not_number, value_of, value_from, steps_invalid, steps_of, width_for}
 use Rattle.tokens.specs.WrittenNames.{not_rising, column_for}
-use Rattle.names_writer.specs.Steps.{number_of}
-use Rattle.names_writer.specs.Pieces.{piece_of}
+use Rattle.names_writer.specs.Steps.{token_number}
+use Rattle.names_writer.specs.Measured.{last_number}
+use Rattle.names_writer.specs.Pieces.{number_piece, piece_of}
 use Rattle.names_writer.specs.Arrived.{pieces_of, part_bytes}
-use Rattle.names_writer.proofs.KindLaws.{last-number}
 use Rattle.names_writer.proofs.SectionLaws.{width_is, count-steps}
 
 -- ---- Parts of a column
@@ -105,49 +104,48 @@ module _ (tokens : List (List ℕ)) where
   abbrev column_by : (test : Bool) → Column
   column_by test = cond test (strings tokens) (rising width (get_or numbers 0 0) (steps_of numbers))
 
+  value-at : (k : ℕ) → value_of (get_or tokens k []) ≡ get_or numbers k 0
+  unfolding value_of value_from
+  value-at k = sym (get_or-map value_of tokens k [])
+
   -- Of a rising column.
-  rising-at : any not_number tokens ≡ false → (i previous : ℕ) → i < length tokens
-      → (0 < i → previous ≡ number_of (get_or tokens (i - 1) []))
-      → cond (eqb i 0) (le_bytes 8 (number_of (get_or tokens i [])))
-      (le_bytes width (number_of (get_or tokens i []) - previous))
+  rising-at : any not_number tokens ≡ false → (i : ℕ) → i < length tokens
+      → number_piece (last_number tokens i) width (value_of (get_or tokens i []))
       ≡ get_or (le_bytes 8 (get_or numbers 0 0) ∷ map (le_bytes width) (steps_of numbers)) i []
-  rising-at none zero previous inside near = ap (le_bytes 8) (last-number tokens 0 inside none)
-  rising-at none (suc j) previous inside near =
-      let back : suc j - 1 ≡ j = omega arith in
+  unfolding number_piece last_number token_number
+  rising-at none zero inside = ap (le_bytes 8) (value-at 0)
+  rising-at none (suc j) inside =
       let size : length numbers ≡ length tokens = length-map tokens value_of in
-      let is : previous ≡ get_or numbers j 0 =
-      near (omega arith)
-      ∙ ap (λ (k : ℕ). number_of (get_or tokens k [])) back
-      ∙ last-number tokens j (omega arith) none in
-      ap (λ (t : Bool). cond t (le_bytes 8 (number_of (get_or tokens (suc j) [])))
-      (le_bytes width (number_of (get_or tokens (suc j) []) - previous))) (ne_eqb (suc j) 0
-      (λ e. omega arith))
-      ∙ ap₂ (λ (a b : ℕ). le_bytes width (a - b)) (last-number tokens (suc j) inside none) is
+      let before : List ℕ = get_or tokens j [] in
+      ap (λ (t : Bool). number_piece (cond t None (Some (value_of before))) width
+      (value_of (get_or tokens (suc j) []))) (any_none not_number tokens none j [] (omega arith))
+      ∙ ap₂ (λ (a b : ℕ). le_bytes width (a - b)) (value-at (suc j)) (value-at j)
       ∙ ap (le_bytes width) (step-at numbers j (omega arith))
       ∙ mapped_at (le_bytes width) (steps_of numbers) j 0 (omega (arith, count-steps tokens))
 
-  piece_by : (test : Bool) → not_rising tokens ≡ test → (i previous : ℕ) → i < length tokens
-      → (0 < i → previous ≡ number_of (get_or tokens (i - 1) []))
-      → piece_of (eqb i 0) (column_type (column_by test)) previous (get_or tokens i [])
+  piece_by : (test : Bool) → not_rising tokens ≡ test → (i : ℕ) → i < length tokens
+      → piece_of (last_number tokens i) (column_type (column_by test)) (get_or tokens i [])
       ≡ get_or (pieces_of (column_by test)) i []
   unfolding piece_of column_type pieces_of not_rising
-  piece_by true is i previous inside near = mapped_at (λ token. token ++ (0 ∷ [])) tokens i [] inside
-  piece_by false is i previous inside near =
+  piece_by true is i inside = mapped_at (λ token. token ++ (0 ∷ [])) tokens i [] inside
+  piece_by false is i inside =
       let w = width_is (steps_of numbers) in
       let none = (or-neither (any not_number tokens) (steps_invalid (get_or numbers 0 0) numbers) is).0 in
-      ap₂ (λ (t : Bool) (n : ℕ). cond t (get_or tokens i [] ++ (0 ∷ []))
-      (cond (eqb i 0) (le_bytes 8 (number_of (get_or tokens i [])))
-      (le_bytes n (number_of (get_or tokens i []) - previous)))) w.steps w.wide
-      ∙ rising-at none i previous inside near
+      let token : List ℕ = get_or tokens i [] in
+      ap₂ (λ (t : Bool) (n : ℕ). cond (t || not_number token) (token ++ (0 ∷ []))
+      (number_piece (last_number tokens i) n (value_of token))) w.steps w.wide
+      ∙ ap (λ (t : Bool). cond t (token ++ (0 ∷ []))
+      (number_piece (last_number tokens i) width (value_of token)))
+      (any_none not_number tokens none i [] inside)
+      ∙ rising-at none i inside
 
-  pub piece_at : (i kind previous : ℕ) → i < length tokens
-      → kind ≡ column_type (column_for tokens)
-      → (0 < i → previous ≡ number_of (get_or tokens (i - 1) []))
-      → piece_of (eqb i 0) kind previous (get_or tokens i []) ≡ get_or (pieces_of (column_for tokens)) i []
+  pub piece_at : (i kind : ℕ) (last : Option ℕ) → i < length tokens
+      → kind ≡ column_type (column_for tokens) → last ≡ last_number tokens i
+      → piece_of last kind (get_or tokens i []) ≡ get_or (pieces_of (column_for tokens)) i []
   unfolding column_for
-  piece_at i kind previous inside is near =
-      ap (λ (n : ℕ). piece_of (eqb i 0) n previous (get_or tokens i [])) is
-      ∙ piece_by (not_rising tokens) refl i previous inside near
+  piece_at i kind last inside is before =
+      ap₂ (λ (l : Option ℕ) (n : ℕ). piece_of l n (get_or tokens i [])) before is
+      ∙ piece_by (not_rising tokens) refl i inside
 
   -- A piece a token.
   count_by : (test : Bool) → 0 < length tokens → length (pieces_of (column_by test)) ≡ length tokens

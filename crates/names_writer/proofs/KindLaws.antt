@@ -9,13 +9,15 @@ use lib.ListN.{length, get_or, take, length-map, get_or-map}
 use lib.Seq.{take-suc, length-take-le, get_or-take}
 use lib.Dec.{ltb, eqb}
 use borrow.Author.Tests.{le-ltb}
+use Rattle.std.proofs.Common.{None, Some}
 use Rattle.base.specs.Lists.{any, steps_from}
 use Rattle.base.proofs.ListLaws.{by_test}
 use Rattle.base.proofs.Tests.{any_append, any_none, or-neither, absurd_test}
 use Rattle.tokens.specs.Columns.{column_type, step_type, max_number}
 use Rattle.tokens.specs.WrittenNames.{not_number, value_of, value_from, steps_invalid}
-use Rattle.tokens.specs.WrittenNames.{column_for}
-use Rattle.names_writer.specs.Steps.{no_number, number_of, first_kind, widened, kind_after}
+use Rattle.tokens.specs.WrittenNames.{steps_of, width_for, not_rising, column_for}
+use Rattle.names_writer.specs.Steps.{no_number, number_of, token_number, widened, kind_after, kind_with}
+use Rattle.names_writer.specs.Measured.{last_number}
 use Rattle.names_writer.proofs.ValueLaws.{value-most, number_is, number_none}
 use Rattle.names_writer.proofs.KindTests.{step_wrong, steps_by, kind_by, or-false}
 use Rattle.names_writer.proofs.KindTests.{invalid-snoc, steps-snoc, kind_tests}
@@ -117,17 +119,11 @@ last-number tokens k inside none =
     ∙ sym (get_or-map value_of tokens k [])
 
 -- The type of a column of one token.
-pub kind-one : (token : List ℕ) → first_kind (number_of token) ≡ column_type (column_for (token ∷ []))
-unfolding first_kind step_type any steps_from steps_invalid
+kind-one : (token : List ℕ) → cond (not_number token) 0 4 ≡ column_type (column_for (token ∷ []))
+unfolding any steps_from steps_invalid
 kind-one token =
-    by_test (not_number token)
-    (λ none.
-    ap first_kind (number_none token none)
-    ∙ sym (kind_tests token [] ∙ ap (λ (t : Bool). kind_by ((t || false) || false) false false) none))
-    (λ some.
-    ap first_kind (number_is token some)
-    ∙ ap (λ (t : Bool). cond t 0 4) (le-ltb max_number (value_of token) (value-most token some))
-    ∙ sym (kind_tests token [] ∙ ap (λ (t : Bool). kind_by ((t || false) || false) false false) some))
+    sym (kind_tests token []
+    ∙ by_test (not_number token) (λ none. rw none) (λ some. rw some))
 
 -- The type of a column with one more token.
 pub kind-more : (token : List ℕ) (tokens : List (List ℕ)) (more : List ℕ)
@@ -190,7 +186,50 @@ kind_at (token ∷ tokens) (suc j) some inside =
     (sym (take-suc (token ∷ tokens) (suc j) [] inside)
     ∙ ap (λ (k : ℕ). take k (token ∷ tokens)) (sym (add-one (suc j))))
 
-pub kind-first : (tokens : List (List ℕ)) → 0 < length tokens
-    → first_kind (number_of (get_or tokens 0 [])) ≡ column_type (column_for (take 1 tokens))
-kind-first [] some = absurd (omega arith)
-kind-first (token ∷ tokens) some = kind-one token
+-- The type of no tokens is that of the narrowest steps.
+pub kind-none : column_type (column_for []) ≡ 4
+unfolding column_type column_for not_rising steps_of steps_invalid any width_for step_type
+kind-none = refl
+
+-- A token that is no number makes strings of its column.
+kind-lost : (tokens : List (List ℕ)) (j : ℕ) → j < length tokens
+    → not_number (get_or tokens j []) ≡ true → column_type (column_for tokens) ≡ 0
+unfolding column_type column_for not_rising
+kind-lost tokens j inside lost =
+    by_test (any not_number tokens) (λ some. rw some)
+    (λ none. absurd_test (sym lost ∙ any_none not_number tokens none j [] inside))
+
+-- The type of the first i + 1 tokens, by the type of the first i and the number of the last.
+pub kind-next : (tokens : List (List ℕ)) (i : ℕ) → i < length tokens
+    → kind_with (column_type (column_for (take i tokens))) (last_number tokens i) (get_or tokens i [])
+    ≡ column_type (column_for (take (i + 1) tokens))
+unfolding kind_with last_number token_number
+kind-next [] i inside = absurd (omega arith)
+kind-next (token ∷ tokens) zero inside =
+    ap (cond (not_number token) 0) kind-none ∙ kind-one token
+kind-next (token ∷ tokens) (suc j) inside =
+    let before : List ℕ = get_or (token ∷ tokens) j [] in
+    let next : List ℕ = get_or (token ∷ tokens) (suc j) [] in
+    let kind : ℕ = column_type (column_for (take (suc j) (token ∷ tokens))) in
+    let back : suc j - 1 ≡ j = omega arith in
+    let rest : kind_after kind (number_of before) (number_of next)
+    ≡ column_type (column_for (take (suc j + 1) (token ∷ tokens))) =
+    ap (λ (k : ℕ). kind_after kind (number_of (get_or (token ∷ tokens) k [])) (number_of next)) (sym back)
+    ∙ kind_at (token ∷ tokens) (suc j) (omega arith) inside in
+    by_test (not_number before)
+    (λ none.
+    let size : length (take (suc j) (token ∷ tokens)) ≡ suc j =
+    length-take-le (suc j) (token ∷ tokens) (omega arith) in
+    let strings : kind ≡ 0 =
+    kind-lost (take (suc j) (token ∷ tokens)) j (omega arith)
+    (ap not_number (get_or-take (suc j) (token ∷ tokens) j [] (omega arith)) ∙ none) in
+    ap (λ (t : Bool). kind_with kind (cond t None (Some (value_of before))) next) none
+    ∙ ap (cond (not_number next) 0) strings
+    ∙ by_test (not_number next) (λ t. rw t) (λ t. rw t)
+    ∙ sym (strings-kind (number_of before) (number_of next))
+    ∙ ap (λ (k : ℕ). kind_after k (number_of before) (number_of next)) (sym strings)
+    ∙ rest)
+    (λ some.
+    ap (λ (t : Bool). kind_with kind (cond t None (Some (value_of before))) next) some
+    ∙ ap (λ (n : ℕ). kind_after kind n (number_of next)) (sym (number_is before some))
+    ∙ rest)

@@ -1,5 +1,5 @@
 -- Names that are lent: where each lies. Assumes nothing.
-use mathlib.Core.Path.{◌≡◌, sym, ap₂, ◌∙◌}
+use mathlib.Core.Path.{◌≡◌, sym, ap, ◌∙◌}
 use Prim.Native.Nat.{ℕ, zero, suc, ◌-◌, ◌≤◌, ◌<◌}
 use native.Mathlib.Nat.{not-suc-le-zero, le_of_suc-le-suc}
 use native.Mathlib.Omega.{arith}
@@ -9,14 +9,13 @@ use lib.ListN.{length, get_or, take, drop, length-drop}
 use lib.Seq.{length-take-le}
 use lib.Dec.{eqb}
 use borrow.Author.Tests.{eqb-true}
-use Rattle.base.specs.Lists.{part, any, steps_from}
+use Rattle.base.specs.Lists.{part, part_ending, any, steps_from}
 use Rattle.base.proofs.ListLaws.{length-build, get_or-build}
 use Rattle.base.proofs.Tests.{or-neither, not-false}
 use Rattle.tokens.specs.Split.{max_name, name_length_invalid}
 use Rattle.tokens.specs.WrittenNames.{names_lent, name_ends_invalid}
 use Rattle.tokens.proofs.RowMeaning.{valid-length}
-use Rattle.names_writer.specs.Lent.{NamesLie}
-use Rattle.names_writer.specs.Runs.{NameLent}
+use Rattle.names_writer.specs.Lent.{PartLies}
 
 -- Where a name lies between its ends.
 pub record Lies (start : ℕ) (ends : List ℕ) (i : ℕ) : Type 0 where
@@ -56,13 +55,19 @@ last_end start (end ∷ ends) none (suc i) h =
     last_end end ends (or-neither (name_length_invalid (end - start)) (any name_length_invalid
     (steps_from end ends)) none).1 i (le_of_suc-le-suc h)
 
+-- Name i of those that are lent, which has 1 to 255 bytes.
+pub record LentName (bytes ends : List ℕ) (i : ℕ) (name : List ℕ) : Type 0 where
+  pub some : 0 < length name
+  pub short : length name ≤ max_name
+  pub is : name ≡ get_or (names_lent bytes ends) i []
+
 module _ (bytes ends : List ℕ) where
   pub length_lent : length (names_lent bytes ends) ≡ length ends
   unfolding names_lent
   length_lent = length-build (length ends) _
 
   -- Name i of those that are lent.
-  pub name_lent : (i : ℕ) → i < length ends
+  name_lent : (i : ℕ) → i < length ends
       → get_or (names_lent bytes ends) i []
       ≡ part bytes (get_or (0 ∷ ends) i 0) (get_or ends i 0 - get_or (0 ∷ ends) i 0)
   unfolding names_lent
@@ -83,42 +88,28 @@ module _ (bytes ends : List ℕ) where
     pub name_inside : (i : ℕ) → i < length ends → get_or ends i 0 ≤ length bytes
     name_inside i h = omega (arith, last_end 0 ends ends_valid.0 (suc i) h, ends_valid.1)
 
-  -- A name as it is handed to the split.
-  pub name_handed : (marks marks' : List ℕ) → NamesLie bytes ends marks
-      → length marks' ≡ length marks → (i from to : ℕ) → i < length ends
-      → from ≡ get_or (0 ∷ ends) i 0 → to ≡ get_or ends i 0
-      → NameLent (take (to - from) (drop from bytes)) marks'
-  name_handed marks marks' lie same i from to h e f =
-      let lies = name_lies lie.fit i h in
-      let inside = name_inside lie.fit i h in
+  -- The part of a name lies in the bytes.
+  pub part_lies : name_ends_invalid bytes ends ≡ false → (i : ℕ) → i < length ends
+      → PartLies bytes ends i
+  part_lies fit i h =
+      record {
+        listed = h;
+        rises = omega (arith, (name_lies fit i h).rises);
+        inside = name_inside fit i h;
+      }
+
+  -- It is name i.
+  pub lent_name : name_ends_invalid bytes ends ≡ false → (i : ℕ) → i < length ends
+      → (name : List ℕ) → name ≡ part_ending bytes ends i → LentName bytes ends i name
+  lent_name fit i h name e =
+      let lies = name_lies fit i h in
+      let inside = name_inside fit i h in
+      let from : ℕ = get_or (0 ∷ ends) i 0 in
+      let to : ℕ = get_or ends i 0 in
       let size : length (take (to - from) (drop from bytes)) ≡ to - from =
       length-take-le (to - from) (drop from bytes) (omega (arith, length-drop from bytes)) in
       record {
-        some = omega (arith, lies.rises);
-        short = omega (arith, lies.short);
-        room = omega (arith, lie.room);
+        some = omega (arith, ap length e, lies.rises);
+        short = omega (arith, ap length e, lies.short);
+        is = e ∙ sym (name_lent i h);
       }
-
-  pub name_part : (i from to : ℕ) → i < length ends → from ≡ get_or (0 ∷ ends) i 0
-      → to ≡ get_or ends i 0 → take (to - from) (drop from bytes) ≡ get_or (names_lent bytes ends) i []
-  name_part i from to h e f =
-      ap₂ (λ (a b : ℕ). take (b - a) (drop a bytes)) e f ∙ sym (name_lent i h)
-
-  pub name_ordered : name_ends_invalid bytes ends ≡ false → (i from to : ℕ) → i < length ends
-      → from ≡ get_or (0 ∷ ends) i 0 → to ≡ get_or ends i 0 → (from ≤ to) × (to ≤ length bytes)
-  name_ordered fit i from to h e f = (
-    omega (arith, (name_lies fit i h).rises),
-    omega (arith, name_inside fit i h),
-  )
-
-  -- A name has 1 to 255 bytes.
-  pub name_valid : name_ends_invalid bytes ends ≡ false → (i from to : ℕ) → i < length ends
-      → from ≡ get_or (0 ∷ ends) i 0 → to ≡ get_or ends i 0
-      → (0 < length (take (to - from) (drop from bytes)))
-      × (length (take (to - from) (drop from bytes)) ≤ 255)
-  name_valid fit i from to h e f =
-      let lies = name_lies fit i h in
-      let inside = name_inside fit i h in
-      let size : length (take (to - from) (drop from bytes)) ≡ to - from =
-      length-take-le (to - from) (drop from bytes) (omega (arith, length-drop from bytes)) in
-      (omega (arith, lies.rises), omega (arith, lies.short))

@@ -5,20 +5,19 @@ use native.Mathlib.Numerals.{add-one}
 use native.Mathlib.Omega.{arith}
 use mathlib.Core.List.{List, [], ◌∷◌, ◌++◌, flat_map, flatten}
 use mathlib.Core.List.{append-nil, append_assoc}
-use lib.ListN.{length, get_or, take, length-map, length-append, get_or-map}
-use lib.Seq.{take-suc}
-use Rattle.base.specs.Lists.{build}
-use Rattle.base.specs.Paste.{pasted}
-use Rattle.base.proofs.ListLaws.{length-build, get_or-build}
-use Rattle.base.proofs.PasteLaws.{get_or_pasted_inside}
+use lib.ListN.{replicate, length, get_or, take, drop, length-map, length-append, get_or-map}
+use lib.Seq.{take-suc, length-take-le, get_or-take}
+use Rattle.std.proofs.lemmas.List.{get_or-replicate, length-replicate}
+use Rattle.std.proofs.Common.{Option}
 use Rattle.tokens.specs.Columns.{column_type}
 use Rattle.tokens.specs.WrittenNames.{split_of, column_for, token_count, tokens_at}
-use Rattle.names_writer.specs.Steps.{number_of, first_kind, kind_after}
-use Rattle.names_writer.specs.Rows.{token_of, row_numbers, first_kinds, first_sizes}
-use Rattle.names_writer.specs.Rows.{next_kinds, next_sizes, ColumnRoom}
-use Rattle.names_writer.specs.Measured.{string_bytes, Measured}
+use Rattle.names_writer.specs.declared.column.Column.{Column}
+use Rattle.names_writer.specs.Steps.{token_number, kind_byte, kind_with}
+use Rattle.names_writer.specs.Rows.{token_of}
+use Rattle.names_writer.specs.Columns.{empty, column_at, Grown, RowAdded}
+use Rattle.names_writer.specs.Measured.{last_number, string_bytes, Measured}
 use Rattle.names_writer.proofs.TokenPartLaws.{split-joined}
-use Rattle.names_writer.proofs.KindLaws.{kind_at, kind-first}
+use Rattle.names_writer.proofs.KindLaws.{kind-none, kind-next}
 
 -- ---- Tokens
 
@@ -81,93 +80,61 @@ strings-none : length (string_bytes []) ≡ 0
 unfolding string_bytes flat_map
 strings-none = refl
 
-strings-one : (tokens : List (List ℕ)) → 0 < length tokens
-    → length (get_or tokens 0 []) + 1 ≡ length (string_bytes (take 1 tokens))
-strings-one tokens h = omega (arith, strings-more tokens 0 h, strings-none)
-
--- ---- A table that was written
-
-pub table_at : (table new : List ℕ) (f : ℕ → ℕ) (count k : ℕ) → count ≤ length table
-    → new ≡ pasted table 0 (build count f) → k < count → get_or new k 0 ≡ f k
-table_at table new f count k room e h =
-    let size : length (build count f) ≡ count = length-build count f in
-    let at : k ≡ 0 + k = omega arith in
-    ap₂ (λ (l : List ℕ) (j : ℕ). get_or l j 0) e at
-    ∙ get_or_pasted_inside table 0 (build count f) (omega arith) k 0 (omega arith)
-    ∙ get_or-build count f k 0 h
-
 -- ---- Rows
 
-module _ (names : List (List ℕ)) (count : ℕ) (counted : count ≡ token_count names)
-    (kinds values sizes kinds' values' sizes' : List ℕ) (room : ColumnRoom count kinds values sizes)
-    (name : List ℕ) (short : length name ≤ 255) where
-  -- The first name.
-  pub measured_first : 0 < length names → name ≡ get_or names 0 []
-      → (kinds' ≡ pasted kinds 0 (first_kinds name count))
-      × (values' ≡ pasted values 0 (row_numbers name count))
-      × (sizes' ≡ pasted sizes 0 (first_sizes name count)) → Measured names 1 kinds' values' sizes'
-  unfolding first_kinds row_numbers first_sizes
-  measured_first some is done =
-      let token : (k : ℕ) → token_of name k ≡ get_or (tokens_at names k) 0 [] =
-      λ k. ap (λ (n : List ℕ). token_of n k) is ∙ sym (column_token names 0 k) in
-      let size_is : (k : ℕ) → k < token_count names
-      → get_or sizes' k 0 ≡ length (token_of name k) + 1 =
-      λ k h. table_at sizes sizes' (λ j. length (token_of name j) + 1) count k room.sizes_room
-      done.2
-      (omega arith) in
-      record {
-        kind = λ k h.
-            table_at kinds kinds' (λ j. first_kind (number_of (token_of name j))) count k
-            room.kinds_room done.0 (omega arith)
-            ∙ ap (λ (t : List ℕ). first_kind (number_of t)) (token k)
-            ∙ kind-first (tokens_at names k) (omega (arith, length_column names k));
-        value = λ k h.
-            table_at values values' (λ j. number_of (token_of name j)) count k
-            room.values_room done.1 (omega arith)
-            ∙ ap number_of (token k);
-        size = λ k h.
-            size_is k h
-            ∙ ap (λ (t : List ℕ). length t + 1) (token k)
-            ∙ strings-one (tokens_at names k) (omega (arith, length_column names k));
-        small = λ k h. omega (arith, size_is k h, token-short name k);
-      }
+-- Before the first name.
+pub measured_none : (names : List (List ℕ)) (columns : List Column)
+    → length columns ≡ token_count names
+    → ((k : ℕ) → k < length columns → column_at columns k ≡ empty) → Measured names 0 columns
+unfolding last_number
+measured_none names columns counted none =
+    record {
+      counted = counted;
+      kind = λ k h. ap (λ (column : Column). kind_byte column.kind) (none k (omega arith)) ∙ sym kind-none;
+      last = λ k h. ap (λ (column : Column). column.last) (none k (omega arith));
+      size = λ k h. ap (λ (column : Column). column.size) (none k (omega arith)) ∙ sym strings-none;
+      small = λ k h. omega (arith, ap (λ (column : Column). column.size) (none k (omega arith)));
+    }
 
-  -- Another name.
-  pub measured_next : (i : ℕ) → 0 < i → i < length names → Measured names i kinds values sizes
-      → name ≡ get_or names i []
-      → (kinds' ≡ pasted kinds 0 (next_kinds name kinds values count))
-      × (values' ≡ pasted values 0 (row_numbers name count))
-      × (sizes' ≡ pasted sizes 0 (next_sizes name sizes count))
-      → Measured names (i + 1) kinds' values' sizes'
-  unfolding next_kinds row_numbers next_sizes
-  measured_next i some inside so is done =
+pub room_none : (names : List (List ℕ)) (count : ℕ) → count ≤ 255 → count ≡ token_count names
+    → Measured names 0 (take (count - 0) (drop 0 (replicate 255 empty)))
+room_none names count most counted =
+    let room : List Column = replicate 255 empty in
+    let all : length room ≡ 255 = length-replicate 255 empty in
+    let size : length (take (count - 0) (drop 0 room)) ≡ count =
+    length-take-le (count - 0) room (omega arith) ∙ omega arith in
+    measured_none names (take (count - 0) (drop 0 room)) (size ∙ counted)
+    (λ k h.
+    get_or-take (count - 0) room k _ (omega arith) ∙ get_or-replicate 255 k empty _ (omega arith))
+
+-- One more name.
+module _ (names : List (List ℕ)) (columns columns' : List Column) (name : List ℕ)
+    (short : length name ≤ 255) where
+  pub measured_next : (i : ℕ) → i < length names → Measured names i columns → name ≡ get_or names i []
+      → length columns' ≡ length columns → RowAdded name columns columns'
+      → Measured names (i + 1) columns'
+  unfolding last_number
+  measured_next i inside so is same done =
       let token : (k : ℕ) → token_of name k ≡ get_or (tokens_at names k) i [] =
       λ k. ap (λ (n : List ℕ). token_of n k) is ∙ sym (column_token names i k) in
-      let size_is : (k : ℕ) → k < token_count names
-      → get_or sizes' k 0 ≡ get_or sizes k 0 + (length (token_of name k) + 1) =
-      λ k h.
-      table_at sizes sizes' (λ j. get_or sizes j 0 + (length (token_of name j) + 1)) count k
-      room.sizes_room done.2 (omega arith) in
-      let back : i + 1 - 1 ≡ i = omega arith in
+      let grown : (k : ℕ) → k < token_count names
+      → Grown (column_at columns k) (token_of name k) (column_at columns' k) =
+      λ k h. done.each k (omega (arith, so.counted)) in
       record {
+        counted = same ∙ so.counted;
         kind = λ k h.
-            table_at kinds kinds'
-            (λ j. kind_after (get_or kinds j 0) (get_or values j 0) (number_of (token_of name j)))
-            count k room.kinds_room done.0 (omega arith)
-            ∙ ap₂ (λ (a b : ℕ). kind_after a b (number_of (token_of name k))) (so.kind k h)
-            (so.value k h)
-            ∙ ap (λ (t : List ℕ).
-            kind_after (column_type (column_for (take i (tokens_at names k))))
-            (number_of (get_or (tokens_at names k) (i - 1) [])) (number_of t)) (token k)
-            ∙ kind_at (tokens_at names k) i some (omega (arith, length_column names k));
-        value = λ k h.
-            table_at values values' (λ j. number_of (token_of name j)) count k
-            room.values_room done.1 (omega arith)
-            ∙ ap number_of (token k)
-            ∙ ap (λ (j : ℕ). number_of (get_or (tokens_at names k) j [])) (sym back);
+            (grown k h).kind
+            ∙ ap₂ (λ (a : ℕ) (b : Option ℕ). kind_with a b (token_of name k)) (so.kind k h) (so.last k h)
+            ∙ ap (kind_with (column_type (column_for (take i (tokens_at names k))))
+            (last_number (tokens_at names k) i)) (token k)
+            ∙ kind-next (tokens_at names k) i (omega (arith, length_column names k));
+        last = λ k h.
+            (grown k h).last
+            ∙ ap token_number (token k)
+            ∙ ap (last_number (tokens_at names k)) (sym (add-one i));
         size = λ k h.
-            size_is k h
+            (grown k h).size
             ∙ ap₂ (λ (a : ℕ) (t : List ℕ). a + (length t + 1)) (so.size k h) (token k)
             ∙ sym (strings-more (tokens_at names k) i (omega (arith, length_column names k)));
-        small = λ k h. omega (arith, size_is k h, token-short name k, so.small k h);
+        small = λ k h. omega (arith, (grown k h).size, token-short name k, so.small k h);
       }

@@ -3,31 +3,33 @@ use mathlib.Core.Path.{◌≡◌, refl, sym, ap, ap₂, ◌∙◌}
 use Prim.Native.Nat.{ℕ, ◌+◌, ◌-◌, ◌%◌, ◌≤◌, ◌<◌}
 use native.Mathlib.Numerals.{add-one}
 use native.Mathlib.Omega.{arith}
-use mathlib.Core.Bool.{Bool, true, false}
+use mathlib.Core.Bool.{Bool, true, false, cond, ◌||◌}
+use Rattle.std.proofs.Common.{Option, None, Some}
+use Rattle.base.proofs.ListLaws.{by_test}
 use mathlib.Core.List.{List, [], ◌∷◌, ◌++◌}
 use lib.ListN.{length, set, length-append}
-use borrow.Author.Tests.{eq-eqb, ne_eqb}
+use lib.Dec.{eqb}
 use Rattle.base.specs.Numbers.{le_bytes}
 use Rattle.base.specs.Paste.{pasted}
 use Rattle.base.proofs.PasteLaws.{set_pasted, pasted_snoc}
 use Rattle.tokens.specs.Columns.{step_type}
-use Rattle.names_writer.specs.Steps.{number_of, kind_width}
-use Rattle.names_writer.specs.Pieces.{piece_of, written}
+use Rattle.names_writer.specs.declared.steps.Kind.{Kind}
+use Rattle.names_writer.specs.declared.steps.Kind.TheVariants.{Strings, Steps16, Steps8, Steps32}
+use Rattle.tokens.specs.WrittenNames.{not_number, value_of}
+use Rattle.names_writer.specs.Steps.{token_number, kind_byte, kind_width}
+use Rattle.names_writer.specs.Pieces.{number_piece, piece_of, written}
+use Rattle.names_writer.proofs.ValueLaws.{number_some, number_lacks}
 
 -- ---- A step
 
-module _ (kind : ℕ) where
-  pub width_8 : kind ≡ 4 → kind_width kind ≡ 1
-  unfolding kind_width step_type
-  width_8 e = rw (eq-eqb kind 4 e)
-
-  pub width_16 : (kind ≡ 4 → ⊥) → kind ≡ 3 → kind_width kind ≡ 2
-  unfolding kind_width step_type
-  width_16 other e = rw (ne_eqb kind 4 other, eq-eqb kind 3 e)
-
-  pub width_32 : (kind ≡ 4 → ⊥) → (kind ≡ 3 → ⊥) → kind_width kind ≡ 4
-  unfolding kind_width step_type
-  width_32 other more = rw (ne_eqb kind 4 other, ne_eqb kind 3 more)
+-- The types that are neither of one byte nor of two.
+pub width_most : (kind : Kind) → (kind ≡ Steps16 → ⊥) → (kind ≡ Steps8 → ⊥)
+    → kind_width (kind_byte kind) ≡ 4
+unfolding kind_width step_type
+width_most Strings other more = refl
+width_most Steps16 other more = absurd (other refl)
+width_most Steps8 other more = absurd (more refl)
+width_most Steps32 other more = refl
 
 -- A step of one byte.
 pub put_one : (out : List ℕ) (at step width : ℕ) → width ≡ 1 → at < length out
@@ -50,22 +52,46 @@ put_many out new at step width bytes low e same done = (
   ap (λ (w : ℕ). at + w) (sym e),
 )
 
+-- ---- A number
+
+module _ (last : Option ℕ) (width number : ℕ) where
+  pub number_first : last ≡ None → number_piece last width number ≡ le_bytes 8 number
+  unfolding number_piece
+  number_first e = ap (λ (l : Option ℕ). number_piece l width number) e
+
+  pub number_next : (previous : ℕ) → last ≡ Some previous
+      → number_piece last width number ≡ le_bytes width (number - previous)
+  unfolding number_piece
+  number_next previous e = ap (λ (l : Option ℕ). number_piece l width number) e
+
 -- ---- A piece
 
-module _ (first : Bool) (kind previous : ℕ) (token : List ℕ) where
-  pub piece_string : kind ≡ 0 → piece_of first kind previous token ≡ token ++ (0 ∷ [])
+module _ (last : Option ℕ) (kind : ℕ) (token : List ℕ) where
+  pub piece_string : eqb kind 0 ≡ true → piece_of last kind token ≡ token ++ (0 ∷ [])
   unfolding piece_of
-  piece_string e = rw (eq-eqb kind 0 e)
+  piece_string e = rw e
 
-  pub piece_start : (kind ≡ 0 → ⊥) → first ≡ true
-      → piece_of first kind previous token ≡ le_bytes 8 (number_of token)
+  pub piece_none : None ≡ token_number token → piece_of last kind token ≡ token ++ (0 ∷ [])
   unfolding piece_of
-  piece_start other e = rw (ne_eqb kind 0 other, e)
+  piece_none e =
+      by_test (eqb kind 0) (λ yes. rw yes) (λ no. rw (no, number_lacks token e))
 
-  pub piece_step : (kind ≡ 0 → ⊥) → first ≡ false
-      → piece_of first kind previous token ≡ le_bytes (kind_width kind) (number_of token - previous)
+  pub piece_number : (number : ℕ) → eqb kind 0 ≡ false → Some number ≡ token_number token
+      → piece_of last kind token ≡ number_piece last (kind_width kind) number
   unfolding piece_of
-  piece_step other e = rw (ne_eqb kind 0 other, e)
+  piece_number number other e =
+      let some = number_some token number e in
+      ap₂ (λ (s t : Bool). cond (s || t) (token ++ (0 ∷ []))
+      (number_piece last (kind_width kind) (value_of token))) other some.digits
+      ∙ ap (number_piece last (kind_width kind)) (sym some.is)
+
+-- The type may be given by its byte.
+pub piece_kind : (last : Option ℕ) (kind byte : ℕ) (token : List ℕ) → eqb kind 0 ≡ eqb byte 0
+    → kind_width kind ≡ kind_width byte → piece_of last kind token ≡ piece_of last byte token
+unfolding piece_of
+piece_kind last kind byte token e f =
+    ap₂ (λ (s : Bool) (w : ℕ). cond (s || not_number token) (token ++ (0 ∷ []))
+    (number_piece last w (value_of token))) e f
 
 -- Bytes, then a zero byte.
 pub put-string : (out new token : List ℕ) (at end : ℕ) → at + length (token ++ (0 ∷ [])) ≤ length out

@@ -1,36 +1,18 @@
 -- Laws of what is refused of names. Assumes nothing.
 use mathlib.Core.Path.{◌≡◌, refl, sym, ap, ap₂, ◌∙◌}
-use Prim.Native.Nat.{ℕ, ◌+◌, ◌-◌, ◌≤◌, ◌<◌}
+use Prim.Native.Nat.{ℕ, ◌+◌, ◌≤◌, ◌<◌}
 use native.Mathlib.Omega.{arith}
 use mathlib.Core.Bool.{Bool, true, false, not, ◌||◌}
 use mathlib.Core.List.{List, [], ◌∷◌}
 use lib.ListN.{length, get_or, drop}
-use lib.Dec.{ltb, leb, eqb}
-use borrow.Author.Tests.{eq-eqb, ne_eqb, lt-ltb, le-ltb, lt-leb, le-leb}
+use lib.Dec.{eqb}
+use borrow.Author.Tests.{eq-eqb, ne_eqb}
 use Rattle.base.specs.Lists.{build, any, steps_from}
-use Rattle.base.proofs.ListLaws.{by_order}
 use Rattle.base.proofs.AnyLaws.{any_found, any_passed, any_past}
-use Rattle.tokens.specs.Split.{max_name, name_length_invalid}
+use Rattle.tokens.specs.Split.{name_length_invalid}
 use Rattle.tokens.specs.WrittenNames.{split_of, token_count, token_counts_differ}
 use Rattle.tokens.specs.WrittenNames.{name_ends_invalid, names_lent}
 use Rattle.names_writer.proofs.LentLaws.{length_lent}
-
--- ---- The length of a name
-
-pub length_none : (before end : ℕ) → end ≤ before → name_length_invalid (end - before) ≡ true
-unfolding name_length_invalid
-length_none before end low = rw (eq-eqb (end - before) 0 (omega arith)) refl
-
-pub length_some : (before end : ℕ) → before < end
-    → name_length_invalid (end - before) ≡ ltb max_name (end - before)
-unfolding name_length_invalid
-length_some before end more = rw (ne_eqb (end - before) 0 (λ e. omega arith)) refl
-
--- One number is above another, or is not.
-pub ltb-leb : (a b : ℕ) → ltb a b ≡ not (leb b a)
-ltb-leb a b =
-    by_order a b (λ less. lt-ltb a b less ∙ ap not (sym (lt-leb b a less)))
-    (λ more. le-ltb a b more ∙ ap not (sym (le-leb b a more)))
 
 -- ---- The ends
 

@@ -4,11 +4,10 @@ use Prim.Native.Nat.{ℕ, ◌+◌, ◌<◌}
 use native.Mathlib.Nat.{zero-add}
 use native.Mathlib.Omega.{arith}
 use mathlib.Core.List.{List}
-use lib.ListN.{length, get_or, set}
+use lib.ListN.{length, set}
 use Rattle.base.specs.Lists.{build}
 use Rattle.base.specs.Paste.{pasted}
-use Rattle.base.proofs.ListLaws.{length-build}
-use Rattle.base.proofs.PasteLaws.{pasted_nil, pasted_turn, length_pasted, get_or_pasted_after}
+use Rattle.base.proofs.PasteLaws.{pasted_nil, pasted_turn}
 
 module _ (table : List ℕ) (f : ℕ → ℕ) where
   -- Nothing is written yet.
@@ -18,18 +17,6 @@ module _ (table : List ℕ) (f : ℕ → ℕ) where
 
   module _ (now : List ℕ) (k : ℕ) (written : now ≡ pasted table 0 (build k f))
       (inside : k < length table) where
-    -- Element k is still the old one.
-    pub table_old : get_or now k 0 ≡ get_or table k 0
-    table_old =
-        let size : length (build k f) ≡ k = length-build k f in
-        ap (λ (l : List ℕ). get_or l k 0) written
-        ∙ get_or_pasted_after table 0 (build k f) (omega arith) k 0 (omega arith)
-
-    pub table-length : length now ≡ length table
-    table-length =
-        let size : length (build k f) ≡ k = length-build k f in
-        ap length written ∙ length_pasted table 0 (build k f) (omega arith)
-
     -- It is written.
     pub table_turn : (x : ℕ) → x ≡ f k → set now k x ≡ pasted table 0 (build (k + 1) f)
     table_turn x e =

@@ -1,15 +1,13 @@
 -- The sizes of columns, and their sum. Assumes nothing.
-use mathlib.Core.Path.{◌≡◌, refl, ap, ◌∙◌}
+use mathlib.Core.Path.{◌≡◌, ap, ◌∙◌}
 use Prim.Native.Nat.{ℕ, ◌+◌, ◌-◌, ◌≤◌}
 use native.Mathlib.Omega.{arith}
 use mathlib.Core.List.{List, [], ◌∷◌, ◌++◌}
-use lib.ListN.{get_or}
 use lib.Dec.{eqb}
 use Rattle.base.specs.Lists.{build, total}
 use Rattle.base.proofs.ListLaws.{by_test, build-snoc}
 use Rattle.tokens.specs.Columns.{step_type}
 use Rattle.names_writer.specs.Steps.{kind_width, column_size}
-use Rattle.names_writer.specs.Measured.{column_sizes}
 use Rattle.names_writer.proofs.ValueLaws.{steps-small}
 
 total-snoc : (list : List ℕ) (x : ℕ) → total (list ++ (x ∷ [])) ≡ total list + x
@@ -17,19 +15,8 @@ unfolding total
 total-snoc [] x = omega arith
 total-snoc (y ∷ ys) x = omega (arith, total-snoc ys x)
 
-module _ (kinds sizes : List ℕ) (reads : ℕ) where
-  pub sizes_none : total (column_sizes kinds sizes reads 0) ≡ 0
-  unfolding column_sizes build total
-  sizes_none = refl
-
-  pub sizes_turn : (k : ℕ)
-      → total (column_sizes kinds sizes reads (k + 1))
-      ≡ total (column_sizes kinds sizes reads k)
-      + column_size (get_or kinds k 0) (get_or sizes k 0) reads
-  unfolding column_sizes
-  sizes_turn k =
-      let f : ℕ → ℕ = λ j. column_size (get_or kinds j 0) (get_or sizes j 0) reads in
-      ap total (build-snoc k f) ∙ total-snoc (build k f) (f k)
+pub total_turn : (k : ℕ) (f : ℕ → ℕ) → total (build (k + 1) f) ≡ total (build k f) + f k
+total_turn k f = ap total (build-snoc k f) ∙ total-snoc (build k f) (f k)
 
 -- ---- A size
 

@@ -1,16 +1,15 @@
 -- The tables of types and sizes of a section, as code fills them, and its length. Assumes nothing.
 use mathlib.Core.Path.{◌≡◌, refl, sym, ap, ap₂, subst, ◌∙◌}
 use Prim.Native.Nat.{ℕ, zero, suc, ◌+◌, ◌*◌, ◌≤◌, ◌<◌}
-use native.Mathlib.Nat.{zero-add}
 use native.Mathlib.Omega.{arith}
 use mathlib.Core.List.{List, [], ◌∷◌, ◌++◌, map, flat_map}
-use lib.ListN.{length, get_or, take, length-append, length-map}
+use lib.ListN.{length, take, length-append, length-map}
 use lib.Seq.{take_all}
 use Rattle.base.specs.Lists.{build, total}
 use Rattle.base.specs.Numbers.{le_bytes}
 use Rattle.base.specs.Paste.{pasted}
 use Rattle.base.specs.Place.{At}
-use Rattle.base.proofs.ListLaws.{length-build, get_or-build, build_cong}
+use Rattle.base.proofs.ListLaws.{length-build, build_cong}
 use Rattle.base.proofs.AtLaws.{at-nil}
 use Rattle.base.proofs.AtPasteLaws.{at_pasted}
 use Rattle.base.proofs.NumberLaws.{length-le_bytes}
@@ -19,7 +18,9 @@ use Rattle.tokens.specs.Names.{names_bytes}
 use Rattle.tokens.specs.WrittenNames.{split_of, column_for, token_count, tokens_at, columns_for}
 use Rattle.tokens.specs.WrittenNames.{written_names, names_lent}
 use Rattle.names_writer.specs.Steps.{column_size}
-use Rattle.names_writer.specs.Measured.{string_bytes, Measured, column_sizes}
+use Rattle.names_writer.specs.declared.column.Column.{Column as Measuring}
+use Rattle.names_writer.specs.Columns.{kind_of, size_of, column_kinds, column_sizes}
+use Rattle.names_writer.specs.Measured.{string_bytes, Measured}
 use Rattle.names_writer.proofs.MeasuredLaws.{length_column}
 use Rattle.names_writer.proofs.SectionLaws.{column_size_is}
 
@@ -42,63 +43,38 @@ module _ (names : List (List ℕ)) where
   unfolding columns_for
   count_columns = length-build (token_count names) _
 
-  module _ (reads : ℕ) (kinds values sizes : List ℕ) (all : reads ≡ length names)
-      (so : Measured names reads kinds values sizes) where
-    whole : (k : ℕ) → take reads (tokens_at names k) ≡ tokens_at names k
-    whole k = take_all reads (tokens_at names k) (omega (arith, length_column names k))
+  module _ (columns : List Measuring) (so : Measured names (length names) columns) where
+    whole : (k : ℕ) → take (length names) (tokens_at names k) ≡ tokens_at names k
+    whole k = take_all (length names) (tokens_at names k) (omega (arith, length_column names k))
 
     kind_is : (k : ℕ) → k < token_count names
-        → get_or kinds k 0 ≡ column_type (column_for (tokens_at names k))
+        → kind_of columns k ≡ column_type (column_for (tokens_at names k))
     kind_is k h =
         so.kind k h ∙ ap (λ (tokens : List (List ℕ)). column_type (column_for tokens)) (whole k)
 
-    pub kinds_stand : token_count names ≤ length kinds
-        → At kinds 0 (map column_type (columns_for names))
-    kinds_stand room =
-        let n : ℕ = token_count names in
-        let f : ℕ → ℕ = λ k. column_type (column_for (tokens_at names k)) in
-        let size : length (build n f) ≡ n = length-build n f in
-        subst (At kinds 0) (sym (columns_map column_type))
-        (record {
-          fits = omega arith;
-          same = λ k h.
-              ap (λ (j : ℕ). get_or kinds j 0) (zero-add k)
-              ∙ kind_is k (omega arith)
-              ∙ sym (get_or-build n f k 0 (omega arith));
-        })
+    -- The types and the sizes are those of the columns.
+    kinds_are : column_kinds columns ≡ map column_type (columns_for names)
+    unfolding column_kinds
+    kinds_are =
+        ap (λ (n : ℕ). build n (kind_of columns)) so.counted
+        ∙ build_cong (token_count names) _ _ kind_is
+        ∙ sym (columns_map column_type)
 
-    sizes_are : column_sizes kinds sizes reads (token_count names)
+    sizes_are : column_sizes columns (length names)
         ≡ map (λ column. length (column_bytes column)) (columns_for names)
     unfolding column_sizes
     sizes_are =
-        build_cong (token_count names) _ _
+        ap (λ (n : ℕ). build n (size_of columns (length names))) so.counted
+        ∙ build_cong (token_count names) _ _
         (λ k h.
-        ap₂ (λ (a b : ℕ). column_size a b reads) (kind_is k h)
+        ap₂ (λ (a b : ℕ). column_size a b (length names)) (kind_is k h)
         (so.size k h
         ∙ ap (λ (tokens : List (List ℕ)). length (string_bytes tokens)) (whole k))
         ∙ ap (column_size (column_type (column_for (tokens_at names k)))
         (length (string_bytes (tokens_at names k))))
-        (all ∙ sym (length_column names k))
+        (sym (length_column names k))
         ∙ column_size_is (tokens_at names k))
         ∙ sym (columns_map (λ column. length (column_bytes column)))
-
-    pub sizes_stand : (sizes' : List ℕ) (count : ℕ) → count ≡ token_count names
-        → count ≤ length sizes → sizes' ≡ pasted sizes 0 (column_sizes kinds sizes reads count)
-        → At sizes' 0 (map (λ column. length (column_bytes column)) (columns_for names))
-    sizes_stand sizes' count counted room e =
-        let part : List ℕ = map (λ column. length (column_bytes column)) (columns_for names) in
-        let is : column_sizes kinds sizes reads count ≡ part =
-        ap (column_sizes kinds sizes reads) counted ∙ sizes_are in
-        let size : length part ≡ token_count names =
-        length-map (columns_for names) _ ∙ count_columns in
-        subst (λ (l : List ℕ). At l 0 part) (sym (e ∙ ap (pasted sizes 0) is))
-        (at_pasted sizes 0 part (omega arith))
-
-    pub sum_is : (count : ℕ) → count ≡ token_count names
-        → total (column_sizes kinds sizes reads count)
-        ≡ total (map (λ column. length (column_bytes column)) (columns_for names))
-    sum_is count counted = ap (λ (n : ℕ). total
-        (column_sizes kinds sizes reads n)) counted ∙ ap total sizes_are
 
 -- ---- The section
 
@@ -170,6 +146,37 @@ section-length names count some counted =
       length-table columns,
       length-columns columns,
       count_columns names,
+    )
+
+-- What is measured of some names.
+pub measured_done : (names : List (List ℕ)) (columns : List Measuring) (reads : ℕ) → 0 < length names
+    → reads ≡ length names → Measured names reads columns → (kinds sizes kinds' sizes' : List ℕ) (r : ℕ)
+    → length columns ≤ length kinds → length columns ≤ length sizes
+    → (kinds' ≡ pasted kinds 0 (column_kinds columns))
+    × (sizes' ≡ pasted sizes 0 (column_sizes columns reads))
+    × (r ≡ 4 + 9 * length columns + total (column_sizes columns reads))
+    → (r ≡ length (written_names names)) × At kinds' 0 (map column_type (columns_for names))
+    × At sizes' 0 (map (λ column. length (column_bytes column)) (columns_for names))
+measured_done names columns reads some all so kinds sizes kinds' sizes' r kinds_room sizes_room done =
+    let types : List ℕ = map column_type (columns_for names) in
+    let lengths : List ℕ = map (λ column. length (column_bytes column)) (columns_for names) in
+    let whole : Measured names (length names) columns =
+    subst (λ (n : ℕ). Measured names n columns) all so in
+    let sizes_is : column_sizes columns reads ≡ lengths =
+    ap (column_sizes columns) all ∙ sizes_are names columns whole in
+    let types_count : length types ≡ token_count names =
+    length-map (columns_for names) _ ∙ count_columns names in
+    let lengths_count : length lengths ≡ token_count names =
+    length-map (columns_for names) _ ∙ count_columns names in (
+      done.2
+          ∙ ap (λ (list : List ℕ). 4 + 9 * length columns + total list) sizes_is
+          ∙ section-length names (length columns) some so.counted,
+      subst (λ (list : List ℕ). At list 0 types)
+          (sym (done.0 ∙ ap (pasted kinds 0) (kinds_are names columns whole)))
+          (at_pasted kinds 0 types (omega (arith, so.counted))),
+      subst (λ (list : List ℕ). At list 0 lengths)
+          (sym (done.1 ∙ ap (pasted sizes 0) sizes_is))
+          (at_pasted sizes 0 lengths (omega (arith, so.counted))),
     )
 
 -- ---- No names

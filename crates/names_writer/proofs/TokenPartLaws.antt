@@ -2,15 +2,15 @@
 use mathlib.Core.Path.{◌≡◌, refl, sym, ap, ap₂, subst, ◌∙◌}
 use Prim.Native.Nat.{ℕ, zero, suc, ◌+◌, ◌-◌, ◌≤◌, ◌<◌}
 use native.Mathlib.Nat.{not-suc-le-zero, le_of_suc-le-suc}
-use native.Mathlib.Numerals.{add-one}
 use native.Mathlib.Omega.{arith}
 use mathlib.Core.List.{List, [], ◌∷◌, ◌++◌, map, flatten}
 use lib.ListN.{length, get_or, take, drop, length-append, length-drop}
 use lib.Seq.{take_at, drop_at, drop-drop}
-use Rattle.base.specs.Lists.{places_from}
+use Rattle.base.specs.Lists.{places_from, part_ending}
 use Rattle.base.specs.Place.{At}
 use Rattle.base.proofs.ListLaws.{by_test}
 use Rattle.tokens.specs.WrittenNames.{split_of, with_byte, alike}
+use Rattle.names_writer.specs.Lent.{PartLies}
 use Rattle.names_writer.specs.Runs.{token_ends}
 use Rattle.names_writer.proofs.TokenLaws.{length_ends}
 
@@ -33,11 +33,10 @@ split-joined (byte ∷ bytes) =
 -- ---- A token by its ends
 
 -- Token k lies from one end to the next.
-pub record TokenAt (name token : List ℕ) (from to : ℕ) : Type 0 where
+record TokenAt (name token : List ℕ) (from to : ℕ) : Type 0 where
   pub ordered : from ≤ to
   pub inside : to ≤ length name
   pub part : take (to - from) (drop from name) ≡ token
-  pub size : to - from ≡ length token
 
 token-first : (name token rest : List ℕ) (start : ℕ) → start ≤ length name
     → drop start name ≡ token ++ rest → TokenAt name token start (start + length token)
@@ -49,7 +48,6 @@ token-first name token rest start low joined =
           omega (arith, ap length joined, length-append token rest, length-drop start name);
       part =
           ap₂ take back joined ∙ take_at token rest (length token) refl;
-      size = back;
     }
 
 token-each : (name : List ℕ) (tokens : List (List ℕ)) (start : ℕ) → start ≤ length name
@@ -68,27 +66,36 @@ token-each name (token ∷ tokens) start low joined (suc k) h =
     ∙ drop_at token (flatten tokens) (length token) refl)
     k (le_of_suc-le-suc h)
 
--- Token k of a name, `marks` holding the ends of all.
-module _ (name marks : List ℕ) (marked : At marks 0 (token_ends name 0)) (k from to : ℕ)
-    (inside : k < length (split_of name)) (starts : from ≡ get_or (0 ∷ token_ends name 0) k 0)
-    (ends : to ≡ get_or marks k 0) where
-  mark_at : to ≡ get_or (token_ends name 0) k 0
-  mark_at =
-      ends
-      ∙ ap (λ (j : ℕ). get_or marks j 0) (let e : k ≡ 0 + k = omega arith in e)
+-- The tokens of a name, `marks` holding the ends of all.
+module _ (name marks : List ℕ) (marked : At marks 0 (token_ends name 0)) where
+  mark_at : (k : ℕ) → k < length (split_of name) → get_or marks k 0 ≡ get_or (token_ends name 0) k 0
+  mark_at k inside =
+      ap (λ (j : ℕ). get_or marks j 0) (let e : k ≡ 0 + k = omega arith in e)
       ∙ marked.same k (omega (arith, length_ends name 0))
 
-  pub token-at : TokenAt name (get_or (split_of name) k []) from to
-  unfolding token_ends
-  token-at =
-      subst (λ (a : ℕ). TokenAt name (get_or (split_of name) k []) a to) (sym starts)
-      (subst (λ (b : ℕ). TokenAt name (get_or (split_of name) k [])
-      (get_or (0 ∷ token_ends name 0) k 0) b) (sym mark_at)
-      (token-each name (split_of name) 0 (omega arith) (sym (split-joined name)) k inside))
+  mark_before : (k : ℕ) → k < length (split_of name)
+      → get_or (0 ∷ marks) k 0 ≡ get_or (0 ∷ token_ends name 0) k 0
+  mark_before zero inside = refl
+  mark_before (suc k) inside = mark_at k (omega arith)
 
-  -- The next token starts where this one ends.
-  pub next_starts : to ≡ get_or (0 ∷ token_ends name 0) (k + 1) 0
-  next_starts = mark_at ∙ ap (λ (j : ℕ). get_or (0 ∷ token_ends name 0) j 0) (sym (add-one k))
+  module _ (k : ℕ) (inside : k < length (split_of name)) where
+    token-at : TokenAt name (get_or (split_of name) k []) (get_or (0 ∷ marks) k 0) (get_or marks k 0)
+    unfolding token_ends
+    token-at =
+        subst (λ (a : ℕ). TokenAt name (get_or (split_of name) k []) a (get_or marks k 0))
+        (sym (mark_before k inside))
+        (subst (TokenAt name (get_or (split_of name) k []) (get_or (0 ∷ token_ends name 0) k 0))
+        (sym (mark_at k inside))
+        (token-each name (split_of name) 0 (omega arith) (sym (split-joined name)) k inside))
 
-  pub mark_inside : k < length marks
-  mark_inside = omega (arith, marked.fits, length_ends name 0)
+    -- Token k lies in the name.
+    pub token_lies : PartLies name marks k
+    token_lies =
+        record {
+          listed = omega (arith, marked.fits, length_ends name 0);
+          rises = token-at.ordered;
+          inside = token-at.inside;
+        }
+
+    pub token_is : part_ending name marks k ≡ get_or (split_of name) k []
+    token_is = token-at.part

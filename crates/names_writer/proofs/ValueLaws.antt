@@ -4,18 +4,20 @@ use Prim.Native.Nat.{ℕ, suc, ◌+◌, ◌-◌, ◌*◌, ◌^◌, ◌≤◌, �
 use native.Mathlib.Nat.{pow-suc, pow-zero, pow-le-pow_right, zero-lt-suc, mul-le-mul_right}
 use native.Mathlib.Numerals.{add-one}
 use native.Mathlib.Omega.{arith}
-use mathlib.Core.Bool.{Bool, true, false, not, ◌&&◌, ◌||◌}
+use mathlib.Core.Bool.{Bool, true, false, cond, not, ◌&&◌, ◌||◌}
 use mathlib.Core.List.{List, [], ◌∷◌}
 use lib.ListN.{length, get_or, drop, drop_of_length-le}
 use lib.Seq.{drop-cons}
 use lib.Dec.{ltb, leb, eqb}
-use borrow.Author.Tests.{leb-true, ltb-false, eq-eqb, ne_eqb, le-ltb, lt-ltb}
+use borrow.Author.Tests.{leb-true, ltb-false}
+use Rattle.std.proofs.Common.{Option, None, Some}
 use Rattle.base.specs.Lists.{any}
+use Rattle.base.proofs.ListLaws.{by_test}
 use Rattle.base.proofs.Tests.{or-neither, and_both, not-false, any_none}
 use Rattle.tokens.specs.Split.{is_digit}
 use Rattle.tokens.specs.Columns.{max_number}
 use Rattle.tokens.specs.WrittenNames.{not_number, value_of, value_from, max_digits}
-use Rattle.names_writer.specs.Steps.{no_number, number_of}
+use Rattle.names_writer.specs.Steps.{no_number, number_of, token_number, kind_after, kind_with}
 
 -- A digit is 48 to 57.
 pub digit_range : (byte : ℕ) → is_digit byte ≡ true → (48 ≤ byte) × (byte ≤ 57)
@@ -108,32 +110,62 @@ pub number_none : (token : List ℕ) → not_number token ≡ true → number_of
 unfolding number_of
 number_none token e = rw e
 
+-- A number that a token is.
+pub record NumberIs (token : List ℕ) (number : ℕ) : Type 0 where
+  pub digits : not_number token ≡ false
+  pub is : number ≡ value_of token
+  pub most : number ≤ max_number
+
+pub number_some : (token : List ℕ) (number : ℕ) → Some number ≡ token_number token
+    → NumberIs token number
+unfolding token_number
+number_some token number e =
+    by_test (not_number token)
+    (λ none.
+    let other : Some number ≡ None =
+    e ∙ ap (λ (t : Bool). cond t None (Some (value_of token))) none in
+    cc)
+    (λ some.
+    let same : Some number ≡ Some (value_of token) =
+    e ∙ ap (λ (t : Bool). cond t None (Some (value_of token))) some in
+    let is : number ≡ value_of token = cc in
+    record { digits = some; is = is; most = omega (arith, value-most token some) })
+
+pub number_lacks : (token : List ℕ) → None ≡ token_number token → not_number token ≡ true
+unfolding token_number
+number_lacks token e =
+    by_test (not_number token) (λ none. none)
+    (λ some.
+    let other : None ≡ Some (value_of token) =
+    e ∙ ap (λ (t : Bool). cond t None (Some (value_of token))) some in
+    cc)
+
+-- ---- The type of a column with one more token
+
+-- A token that is no number makes strings of it.
+pub with-none : (kind : ℕ) (last : Option ℕ) (token : List ℕ) → None ≡ token_number token
+    → 0 ≡ kind_with kind last token
+unfolding kind_with kind_after
+with-none kind None token e =
+    ap (λ (t : Bool). cond t 0 kind) (sym (number_lacks token e))
+with-none kind (Some previous) token e =
+    by_test (eqb kind 0) (λ yes. rw yes)
+    (λ no. rw (no, number_none token (number_lacks token e)) refl)
+
+-- The first number leaves it.
+pub with-first : (kind number : ℕ) (token : List ℕ) → Some number ≡ token_number token
+    → kind ≡ kind_with kind None token
+unfolding kind_with
+with-first kind number token e =
+    ap (λ (t : Bool). cond t 0 kind) (sym (number_some token number e).digits)
+
+pub with-more : (kind previous number : ℕ) (token : List ℕ) → Some number ≡ token_number token
+    → kind_after kind previous number ≡ kind_with kind (Some previous) token
+unfolding kind_with
+with-more kind previous number token e =
+    let some = number_some token number e in
+    ap (kind_after kind previous) (some.is ∙ sym (number_is token some.digits))
+
 -- Steps of at most 4 bytes take at most four times as many bytes.
 pub steps-small : (width steps : ℕ) → width ≤ 4 → width * steps ≤ 4 * steps
 steps-small width steps h = mul-le-mul_right steps h
-
--- ---- What makes a token no number
-
-module _ (token : List ℕ) where
-  pub others_decide : any (λ byte. not (is_digit byte)) token ≡ true → true ≡ not_number token
-  unfolding not_number
-  others_decide e = rw e
-
-  module _ (digits : any (λ byte. not (is_digit byte)) token ≡ false) where
-    and_false : (t : Bool) → t && false ≡ false
-    and_false true = refl
-    and_false false = refl
-
-    pub short_decides : length token ≤ 1 → false ≡ not_number token
-    unfolding not_number
-    short_decides h =
-        rw (digits, le-ltb 1 (length token) h, le-ltb max_digits (length token) (omega arith))
-        (sym (ap (λ (t : Bool). t || false) (and_false (eqb (get_or token 0 0) 48))))
-
-    pub zero_decides : 1 < length token → get_or token 0 0 ≡ 48 → true ≡ not_number token
-    unfolding not_number
-    zero_decides h e = rw (digits, eq-eqb (get_or token 0 0) 48 e, lt-ltb 1 (length token) h)
-
-    pub length_decides : (get_or token 0 0 ≡ 48 → ⊥) → ltb max_digits (length token) ≡ not_number token
-    unfolding not_number
-    length_decides other = rw (digits, ne_eqb (get_or token 0 0) 48 other)

@@ -1,12 +1,14 @@
 -- A section that is written row by row: what stands in the buffer after so many rows.
-use Rattle.std.specs.Prelude.{ℕ, ◌+◌, ◌-◌, ◌≤◌, ◌<◌, ◌≡◌, length, get_or, take}
+use Rattle.std.specs.Prelude.{ℕ, ◌+◌, ◌<◌, ◌≡◌, length, take}
 use mathlib.Core.List.{List, [], ◌∷◌, ◌++◌, map, flatten}
 use Rattle.base.specs.Lists.{total}
 use Rattle.base.specs.Numbers.{le_bytes}
 use Rattle.base.specs.Place.{At}
 use Rattle.tokens.specs.Columns.{Column, strings, rising, column_bytes}
 use Rattle.tokens.specs.WrittenNames.{column_for, columns_for, token_count, tokens_at}
-use Rattle.names_writer.specs.Steps.{number_of}
+use Rattle.names_writer.specs.declared.pieces.Cursor.{Cursor}
+use Rattle.names_writer.specs.Measured.{last_number}
+use Rattle.names_writer.specs.Pieces.{cursor_at, place_of}
 
 -- The bytes of a column, token by token.
 unfoldable pub pieces_of : (column : Column) → List (List ℕ)
@@ -31,19 +33,14 @@ column_start base names k = base + total (take k (column_lengths names))
 unfoldable pub columns_end : (base : ℕ) (names : List (List ℕ)) → ℕ
 columns_end base names = base + total (column_lengths names)
 
--- Room for the ends of a name's tokens, and for the numbers before and the places of 255 columns.
-pub record PlacesLent (marks values places : List ℕ) : Type 0 where
-  pub marks_room : 255 ≤ length marks
-  pub values_room : 255 ≤ length values
-  pub places_room : 255 ≤ length places
-
 -- The buffer has `front`, the columns of the first i names, each from its start on, and `back`.
 pub record Arrived (names : List (List ℕ)) (front back : List ℕ) (i : ℕ)
-    (values places out : List ℕ) : Type 0 where
-  pub value : (k : ℕ) → k < token_count names → 0 < i
-      → get_or values k 0 ≡ number_of (get_or (tokens_at names k) (i - 1) [])
+    (cursors : List Cursor) (out : List ℕ) : Type 0 where
+  pub counted : length cursors ≡ token_count names
+  pub last : (k : ℕ) → k < token_count names
+      → (cursor_at cursors k).last ≡ last_number (tokens_at names k) i
   pub place : (k : ℕ) → k < token_count names
-      → get_or places k 0 ≡ column_start (length front) names k + length (column_part names k i)
+      → place_of cursors k ≡ column_start (length front) names k + length (column_part names k i)
   pub before : At out 0 front
   pub column : (k : ℕ) → k < token_count names
       → At out (column_start (length front) names k) (column_part names k i)

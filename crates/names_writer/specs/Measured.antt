@@ -1,11 +1,12 @@
 -- The columns of some names, as code keeps them row by row, and what it lends for that.
-use Rattle.std.specs.Prelude.{ℕ, ◌-◌, ◌*◌, ◌≤◌, ◌<◌, ◌≡◌, false, length, get_or, take}
+use Rattle.std.specs.Prelude.{ℕ, zero, suc, ◌*◌, ◌≤◌, ◌<◌, ◌≡◌, false, Option, None, length, get_or, take}
 use mathlib.Core.List.{List, [], ◌∷◌, ◌++◌, flat_map}
-use Rattle.base.specs.Lists.{build}
 use Rattle.tokens.specs.Columns.{column_type}
 use Rattle.tokens.specs.WrittenNames.{column_for, token_count, tokens_at}
 use Rattle.tokens.specs.WrittenNames.{names_lent, name_ends_invalid, token_counts_differ}
-use Rattle.names_writer.specs.Steps.{number_of, column_size}
+use Rattle.names_writer.specs.Steps.{token_number}
+use Rattle.names_writer.specs.declared.column.Column.{Column}
+use Rattle.names_writer.specs.Columns.{column_at, kind_of}
 
 -- The most names.
 abbrev pub max_names : ℕ
@@ -18,28 +19,22 @@ pub record NamesFit (bytes ends : List ℕ) : Type 0 where
   pub some : 0 < length ends
   pub few : length ends ≤ max_names
 
--- Room for 255 columns, and for the ends of 255 tokens.
-pub record TablesLent (marks kinds values sizes : List ℕ) : Type 0 where
-  pub marks_room : 255 ≤ length marks
-  pub kinds_room : 255 ≤ length kinds
-  pub values_room : 255 ≤ length values
-  pub sizes_room : 255 ≤ length sizes
-
 -- Tokens as strings.
 unfoldable pub string_bytes : (tokens : List (List ℕ)) → List ℕ
 string_bytes tokens = flat_map (λ token. token ++ (0 ∷ [])) tokens
 
--- The types, the last numbers and the sizes as strings of the columns of the first i names.
-pub record Measured (names : List (List ℕ)) (i : ℕ) (kinds values sizes : List ℕ) : Type 0 where
-  pub kind : (k : ℕ) → k < token_count names
-      → get_or kinds k 0 ≡ column_type (column_for (take i (tokens_at names k)))
-  pub value : (k : ℕ) → k < token_count names
-      → get_or values k 0 ≡ number_of (get_or (tokens_at names k) (i - 1) [])
-  pub size : (k : ℕ) → k < token_count names
-      → get_or sizes k 0 ≡ length (string_bytes (take i (tokens_at names k)))
-  pub small : (k : ℕ) → k < token_count names → get_or sizes k 0 ≤ 256 * i
+-- The number of the token before token i, if there is one and it is one.
+unfoldable pub last_number : (tokens : List (List ℕ)) (i : ℕ) → Option ℕ
+last_number tokens zero = None
+last_number tokens (suc i) = token_number (get_or tokens i [])
 
--- The sizes of the columns, by their types and their sizes as strings.
-unfoldable pub column_sizes : (kinds sizes : List ℕ) (reads count : ℕ) → List ℕ
-column_sizes kinds sizes reads count =
-    build count (λ k. column_size (get_or kinds k 0) (get_or sizes k 0) reads)
+-- The columns of the first i names: their types, their last numbers and their sizes as strings.
+pub record Measured (names : List (List ℕ)) (i : ℕ) (columns : List Column) : Type 0 where
+  pub counted : length columns ≡ token_count names
+  pub kind : (k : ℕ) → k < token_count names
+      → kind_of columns k ≡ column_type (column_for (take i (tokens_at names k)))
+  pub last : (k : ℕ) → k < token_count names
+      → (column_at columns k).last ≡ last_number (tokens_at names k) i
+  pub size : (k : ℕ) → k < token_count names
+      → (column_at columns k).size ≡ length (string_bytes (take i (tokens_at names k)))
+  pub small : (k : ℕ) → k < token_count names → (column_at columns k).size ≤ 256 * i

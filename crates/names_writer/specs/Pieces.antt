@@ -1,24 +1,37 @@
 -- The bytes that a token adds to its column, as code writes them row by row.
-use Rattle.std.specs.Prelude.{ℕ, zero, suc, ◌+◌, ◌-◌, ◌≤◌, ◌<◌, Bool, cond, length, get_or, take, eqb}
+use Rattle.std.specs.Prelude.{ℕ, zero, suc, ◌+◌, ◌-◌, ◌≤◌, ◌<◌, ◌≡◌, cond, ◌||◌, Option, None, Some, length, get_or, take, eqb}
 use mathlib.Core.List.{List, [], ◌∷◌, ◌++◌, flat_map}
-use Rattle.base.specs.Lists.{build, total}
+use Rattle.base.specs.Lists.{total}
 use Rattle.base.specs.Numbers.{le_bytes}
 use Rattle.base.specs.Paste.{pasted}
 use Rattle.tokens.specs.Columns.{string_type}
-use Rattle.names_writer.specs.Steps.{number_of, kind_width}
+use Rattle.tokens.specs.WrittenNames.{not_number, value_of}
+use Rattle.names_writer.specs.declared.pieces.Cursor.{Cursor}
+use Rattle.names_writer.specs.Steps.{token_number, kind_width}
 use Rattle.names_writer.specs.Rows.{token_of}
 
--- A string and its zero byte; or the start, of the first token; or the step from the number before.
-unfoldable pub piece_of : (first : Bool) (kind previous : ℕ) (token : List ℕ) → List ℕ
-piece_of first kind previous token =
-    cond (eqb kind string_type) (token ++ (0 ∷ []))
-    (cond first (le_bytes 8 (number_of token))
-    (le_bytes (kind_width kind) (number_of token - previous)))
+-- The start of a column; or the step from the number before, of so many bytes.
+unfoldable pub number_piece : (last : Option ℕ) (width number : ℕ) → List ℕ
+number_piece None width number = le_bytes 8 number
+number_piece (Some previous) width number = le_bytes width (number - previous)
+
+-- A string and its zero byte, or a number.
+unfoldable pub piece_of : (last : Option ℕ) (kind : ℕ) (token : List ℕ) → List ℕ
+piece_of last kind token =
+    cond (eqb kind string_type || not_number token) (token ++ (0 ∷ []))
+    (number_piece last (kind_width kind) (value_of token))
+
+-- Cursor k, and its place.
+abbrev pub cursor_at : (cursors : List Cursor) (k : ℕ) → Cursor
+cursor_at cursors k = get_or cursors k (record { last = None; place = 0 })
+
+abbrev pub place_of : (cursors : List Cursor) (k : ℕ) → ℕ
+place_of cursors k = (cursor_at cursors k).place
 
 -- What token k of a name adds to column k.
-abbrev pub row_piece : (first : Bool) (name kinds values : List ℕ) (k : ℕ) → List ℕ
-row_piece first name kinds values k =
-    piece_of first (get_or kinds k 0) (get_or values k 0) (token_of name k)
+abbrev pub row_piece : (name kinds : List ℕ) (cursors : List Cursor) (k : ℕ) → List ℕ
+row_piece name kinds cursors k =
+    piece_of (cursor_at cursors k).last (get_or kinds k 0) (token_of name k)
 
 -- A buffer after so many pieces are written, each at its place.
 unfoldable pub written : (buffer : List ℕ) (place : ℕ → ℕ) (piece : ℕ → List ℕ) (count : ℕ)
@@ -32,15 +45,20 @@ pub record PiecesFit (buffer : List ℕ) (place : ℕ → ℕ) (piece : ℕ → 
     : Type 0 where
   pub each : (k : ℕ) → k < count → place k + length (piece k) ≤ length buffer
 
--- Where the columns have arrived.
-unfoldable pub next_places : (first : Bool) (name kinds values places : List ℕ) (count : ℕ)
-    → List ℕ
-next_places first name kinds values places count =
-    build count (λ k. get_or places k 0 + length (row_piece first name kinds values k))
+-- A cursor is moved on by a piece.
+pub record Moved (token piece : List ℕ) (cursor moved : Cursor) : Type 0 where
+  pub last : moved.last ≡ token_number token
+  pub place : moved.place ≡ cursor.place + length piece
 
--- Where the columns start, the first at `start`.
-unfoldable pub start_places : (start : ℕ) (sizes : List ℕ) (count : ℕ) → List ℕ
-start_places start sizes count = build count (λ k. start + total (take k sizes))
+-- Each cursor is moved on by what a name adds to its column.
+pub record RowMoved (name kinds : List ℕ) (old new : List Cursor) : Type 0 where
+  pub each : (k : ℕ) → k < length old
+      → Moved (token_of name k) (row_piece name kinds old k) (cursor_at old k) (cursor_at new k)
+
+-- Each cursor is where its column starts, the first at `start`.
+pub record Started (start : ℕ) (sizes : List ℕ) (cursors : List Cursor) : Type 0 where
+  pub last : (k : ℕ) → k < length cursors → (cursor_at cursors k).last ≡ None
+  pub place : (k : ℕ) → k < length cursors → place_of cursors k ≡ start + total (take k sizes)
 
 -- The bytes before the columns, from the tables of `count` types and sizes.
 unfoldable pub table_of : (kinds sizes : List ℕ) (count : ℕ) → List ℕ

@@ -8,12 +8,16 @@ ghost use Rattle.base.specs.Place.{At};
 ghost use Rattle.tokens.specs.Columns.{column_type, column_bytes};
 ghost use Rattle.tokens.specs.WrittenNames.{names_refused, names_lent, columns_for, written_names};
 
-use measuring::{all_rows, put_sizes};
+use column::EMPTY;
+use measuring::{measure_rows, put_sizes};
+use pieces::START;
 use refused::{byte_invalid, counts_differ, name_ends_invalid, token_count};
 use table::put_table;
 use writing::put_columns;
 
+pub mod column;
 pub mod measuring;
+pub mod parts;
 pub mod pieces;
 pub mod refused;
 pub mod rows;
@@ -26,6 +30,7 @@ pub mod writing;
 pub const MAX_NAME: usize = 255;
 
 // Whether the writer refuses these names with 41.
+#[tactic(auto, unfolding(tokens::specs::WrittenNames::names_refused))]
 pub fn names_refused(names: &[u8], ends: &[u32], reads: usize) -> bool
     ensures { result ≡ names_refused reads names.now ends.now }
 {
@@ -38,7 +43,7 @@ pub fn names_refused(names: &[u8], ends: &[u32], reads: usize) -> bool
     if byte_invalid(names) {
         return true;
     }
-    let mut marks = [0u8; MAX_NAME];
+    let mut marks = [0u32; MAX_NAME];
     counts_differ(names, ends, &mut marks)
 }
 
@@ -58,10 +63,12 @@ pub fn measure(names: &[u8], ends: &[u32], kinds: &mut [u8], sizes: &mut [usize]
     if ends.len() == 0 {
         return 0;
     }
-    let mut marks = [0u8; MAX_NAME];
-    let mut values = [0u64; MAX_NAME];
-    let count = all_rows(names, ends, &mut marks, kinds, &mut values, sizes);
-    put_sizes(kinds, sizes, count, ends.len())
+    let mut marks = [0u32; MAX_NAME];
+    let count = token_count(names, ends, &mut marks);
+    let mut room = [EMPTY; MAX_NAME];
+    let columns = &mut room[0..count];
+    measure_rows(names, ends, &mut marks, columns);
+    put_sizes(columns, ends.len(), kinds, sizes)
 }
 
 // Writes the names section to `out` from `at` on; `kinds` and `sizes` are as `measure` leaves them.
@@ -86,20 +93,18 @@ pub fn put_section(
     if ends.len() == 0 {
         return;
     }
-    let mut marks = [0u8; MAX_NAME];
-    let mut values = [0u64; MAX_NAME];
-    let mut places = [0usize; MAX_NAME];
+    let mut marks = [0u32; MAX_NAME];
     let count = token_count(names, ends, &mut marks);
     put_table(kinds, sizes, count, out, at);
+    let mut room = [START; MAX_NAME];
+    let cursors = &mut room[0..count];
     put_columns(
         names,
         ends,
         kinds,
         sizes,
-        count,
         &mut marks,
-        &mut values,
-        &mut places,
+        cursors,
         out,
         at + 4 + 9 * count,
     );

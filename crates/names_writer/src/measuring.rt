@@ -3,88 +3,46 @@
 ghost use Rattle.std.specs.Prelude.{◌≡◌, ◌+◌, ◌*◌, ◌≤◌, length};
 ghost use Rattle.base.specs.Lists.{total};
 ghost use Rattle.base.specs.Paste.{pasted};
-ghost use Rattle.tokens.specs.WrittenNames.{names_lent, token_count};
-ghost use Rattle.names_writer.specs.Rows.{SizesFit};
-ghost use Rattle.names_writer.specs.Measured.{NamesFit, TablesLent, Measured, column_sizes};
+ghost use Rattle.tokens.specs.WrittenNames.{names_lent};
+ghost use Rattle.names_writer.specs.Columns.{SmallColumns, column_kinds, column_sizes};
+ghost use Rattle.names_writer.specs.Measured.{NamesFit, Measured};
 
-use crate::rows::{first_row, next_row};
-use crate::steps::column_size;
+use crate::column::Column;
+use crate::parts::part_at;
+use crate::rows::add_row;
 use crate::tokeniser::split_name;
-use integers::size32;
 
-// The types and the sizes as strings of the columns, to the start of `kinds` and `sizes`; the
-// answer is how many columns there are. `marks` and `values` are room for the ends of a name's
-// tokens and the numbers before.
-pub fn all_rows(
-    names: &[u8],
-    ends: &[u32],
-    marks: &mut [u8],
-    kinds: &mut [u8],
-    values: &mut [u64],
-    sizes: &mut [usize],
-) -> usize
+// Measures the columns of all names, which come as they are of no name. `marks` is room for the ends
+// of a name's tokens.
+pub fn measure_rows(names: &[u8], ends: &[u32], marks: &mut [u32], columns: &mut [Column])
     requires names_fit { NamesFit names.now ends.now }
-    requires tables_lent { TablesLent marks.old kinds.old values.old sizes.old }
-    ensures { (result ≡ token_count (names_lent names.now ends.now))
-        × Measured (names_lent names.now ends.now)
-        (length ends.now) kinds.new values.new
-        sizes.new }
+    requires marks_room { 255 ≤ length marks.old }
+    requires none_yet { Measured (names_lent names.now ends.now) 0 columns.old }
+    ensures { Measured (names_lent names.now ends.now) (length ends.now) columns.new }
 {
-    let to = size32(ends[0]);
-    let name = &names[0..to];
-    let count = split_name(name, marks);
-    first_row(name, marks, count, kinds, values, sizes);
-    later_rows(names, ends, count, marks, kinds, values, sizes);
-    count
-}
-
-// The same of all names after the first, of which the columns are measured already.
-fn later_rows(
-    names: &[u8],
-    ends: &[u32],
-    count: usize,
-    marks: &mut [u8],
-    kinds: &mut [u8],
-    values: &mut [u64],
-    sizes: &mut [usize],
-)
-    requires names_fit { NamesFit names.now ends.now }
-    requires tables_lent { TablesLent marks.old kinds.old values.old sizes.old }
-    requires count_value { (count ≡ token_count (names_lent names.now ends.now))
-        × Measured (names_lent names.now ends.now) 1 kinds.old values.old sizes.old }
-    ensures { Measured (names_lent names.now ends.now)
-        (length ends.now) kinds.new values.new
-        sizes.new }
-{
-    let mut from = size32(ends[0]);
-    let mut i: usize = 1;
-    while i < ends.len() {
-        let to = size32(ends[i]);
-        let name = &names[from..to];
+    for i in 0..ends.len() {
+        let name = part_at(names, ends, i);
         split_name(name, marks);
-        next_row(name, marks, count, kinds, values, sizes);
-        from = to;
-        i += 1;
+        add_row(name, marks, columns);
     }
 }
 
-// Puts the sizes of the columns for their sizes as strings; the answer is the length of the
-// section.
-pub fn put_sizes(kinds: &[u8], sizes: &mut [usize], count: usize, reads: usize) -> usize
-    requires { (count ≤ 255) × (count ≤ length kinds.now) × (count ≤ length sizes.old)
-        × (reads ≤ 50000) × SizesFit count sizes.old }
-    ensures { (sizes.new ≡ pasted sizes.old 0
-        (column_sizes kinds.now sizes.old reads count))
-        × (result ≡ 4 + 9 * count
-        + total (column_sizes kinds.now sizes.old reads count)) }
+// The types and the sizes of the columns, to the start of `kinds` and `sizes`; the answer is the
+// length of the section.
+pub fn put_sizes(columns: &[Column], reads: usize, kinds: &mut [u8], sizes: &mut [usize]) -> usize
+    requires room { (length columns.now ≤ 255) × (length columns.now ≤ length kinds.old)
+        × (length columns.now ≤ length sizes.old) }
+    requires small { (reads ≤ 50000) × SmallColumns columns.now }
+    ensures { (kinds.new ≡ pasted kinds.old 0 (column_kinds columns.now))
+        × (sizes.new ≡ pasted sizes.old 0 (column_sizes columns.now reads))
+        × (result ≡ 4 + 9 * length columns.now + total (column_sizes columns.now reads)) }
 {
-    let mut sum = 4 + 9 * count;
-    let mut k: usize = 0;
-    while k < count {
-        let size = column_size(kinds[k], sizes[k], reads);
+    let mut sum = 4 + 9 * columns.len();
+    for (k, column) in columns.iter().enumerate() {
+        let size = column.size_of(reads);
+        kinds[k] = u8::from(column.kind);
         sizes[k] = size;
         sum += size;
-        k += 1;
     }
     sum
 }

@@ -1,28 +1,21 @@
-// The number of a token, the type of a column token by token, and its size. The contracts cite
-// specs/Steps.antt and specs/WrittenNames.antt of tokens.
-ghost use Rattle.std.specs.Prelude.{◌≡◌, false, not, ◌≤◌};
+// The number of a token, and the type of a column token by token. The contracts cite specs/Steps.antt
+// and specs/WrittenNames.antt of tokens.
+ghost use Rattle.std.specs.Prelude.{◌≡◌, false, not, ◌+◌, ◌≤◌};
 ghost use Rattle.base.specs.Lists.{any};
 ghost use Rattle.tokens.specs.Split.{is_digit};
 ghost use Rattle.tokens.specs.Columns.{max_number};
 ghost use Rattle.tokens.specs.WrittenNames.{not_number, value_of};
-ghost use Rattle.names_writer.specs.Steps.{no_number, number_of, first_kind, widened};
-ghost use Rattle.names_writer.specs.Steps.{kind_after, kind_width, column_size};
+ghost use Rattle.names_writer.specs.Steps.{token_number, kind_byte, KindRead};
+ghost use Rattle.names_writer.specs.Steps.{widened, kind_after, kind_width};
 
-use crate::tokeniser::is_digit;
-
-// The type bytes of columns.
-pub const STRINGS: u8 = 0;
-
-pub const STEPS_8: u8 = 4;
-
-pub const STEPS_16: u8 = 3;
-
-pub const STEPS_32: u8 = 5;
-
-// The largest number, of 18 digits, and what stands for a token that is none.
-const MAX_NUMBER: u64 = 999_999_999_999_999_999;
-
-const NO_NUMBER: u64 = 1_000_000_000_000_000_000;
+// The type of a column. Its number is the byte that stands for it in a section.
+#[derive(Clone, Copy, PartialEq, Eq)]
+pub enum Kind {
+    Strings = 0,
+    Steps16 = 3,
+    Steps8 = 4,
+    Steps32 = 5,
+}
 
 const MAX_DIGITS: usize = 18;
 
@@ -30,17 +23,19 @@ const MAX_STEP: u64 = 4_294_967_295;
 
 // ---- The number of a token
 
-// The number of a token, or NO_NUMBER.
-pub fn number_of(token: &[u8]) -> u64
-    ensures { (result ≡ number_of token.now) × (result ≤ no_number) }
+// The number of a token; none where it must stay a string.
+#[tactic(auto, unfolding(crate::specs::Steps::token_number))]
+pub fn number_of(token: &[u8]) -> Option<u64>
+    ensures { result ≡ token_number token.now }
 {
     if not_number(token) {
-        return NO_NUMBER;
+        return None;
     }
-    value_of(token)
+    Some(value_of(token))
 }
 
 // Whether a token has a non-digit, a leading zero before another digit, or more than 18 digits.
+#[tactic(auto, unfolding(tokens::specs::WrittenNames::not_number))]
 fn not_number(token: &[u8]) -> bool
     ensures { result ≡ not_number token.now }
 {
@@ -60,14 +55,7 @@ fn not_number(token: &[u8]) -> bool
 fn other_byte(token: &[u8]) -> bool
     ensures { result ≡ any (λ byte. not (is_digit byte)) token.now }
 {
-    let mut i: usize = 0;
-    while i < token.len() {
-        if !is_digit(token[i]) {
-            return true;
-        }
-        i += 1;
-    }
-    false
+    token.iter().any(|byte| !byte.is_ascii_digit())
 }
 
 // The number that the digits show.
@@ -76,85 +64,82 @@ fn value_of(token: &[u8]) -> u64
     ensures { (result ≡ value_of token.now) × (result ≤ max_number) }
 {
     let mut value: u64 = 0;
-    let mut i: usize = 0;
-    while i < token.len() {
-        let digit = (token[i] - 48) as u64;
-        value = value * 10 + digit;
-        i += 1;
+    for byte in token {
+        value = value * 10 + u64::from(*byte - 48);
     }
     value
 }
 
 // ---- The type of a column
 
-// The type of a column whose first token has this number.
-pub fn first_kind(number: u64) -> u8
-    ensures { result ≡ first_kind number }
-{
-    if MAX_NUMBER < number {
-        return STRINGS;
+impl Kind {
+    // The type with one more number, `previous` being the one before.
+    #[tactic(auto, unfolding(crate::specs::Steps::kind_after))]
+    pub fn after(self, previous: u64, number: u64) -> Kind
+        requires { number ≤ max_number }
+        ensures { kind_byte result ≡ kind_after (kind_byte self) previous number }
+    {
+        if self == Kind::Strings {
+            return Kind::Strings;
+        }
+        if number < previous {
+            return Kind::Strings;
+        }
+        if MAX_STEP < number - previous {
+            return Kind::Strings;
+        }
+        self.widened(number - previous)
     }
-    STEPS_8
+
+    // The narrowest type of the steps so far and one more.
+    #[tactic(auto, unfolding(crate::specs::Steps::widened, tokens::specs::Columns::step_type))]
+    fn widened(self, step: u64) -> Kind
+        ensures { kind_byte result ≡ widened (kind_byte self) step }
+    {
+        if 65_535 < step {
+            return Kind::Steps32;
+        }
+        if step <= 255 {
+            return self;
+        }
+        if self == Kind::Steps32 {
+            return Kind::Steps32;
+        }
+        Kind::Steps16
+    }
+
+    // The width of the steps of a column, in bytes.
+    #[tactic(auto, unfolding(crate::specs::Steps::kind_width, tokens::specs::Columns::step_type))]
+    pub fn width(self) -> usize
+        ensures { (result ≡ kind_width (kind_byte self)) × (result ≤ 4) }
+    {
+        match self {
+            Kind::Steps8 => 1,
+            Kind::Steps16 => 2,
+            _ => 4,
+        }
+    }
 }
 
-// The type with one more token, `previous` being the number of the one before.
-pub fn kind_after(kind: u8, previous: u64, number: u64) -> u8
-    ensures { result ≡ kind_after kind previous number }
-{
-    if kind == STRINGS {
-        return STRINGS;
+impl From<Kind> for u8 {
+    ghost from_gives = { λ kind byte. byte ≡ kind_byte kind };
+
+    fn from(kind: Kind) -> u8 {
+        kind as u8
     }
-    if MAX_NUMBER < number {
-        return STRINGS;
-    }
-    if number < previous {
-        return STRINGS;
-    }
-    if MAX_STEP < number - previous {
-        return STRINGS;
-    }
-    widen(kind, number - previous)
 }
 
-// The narrowest type of the steps so far and one more.
-fn widen(kind: u8, step: u64) -> u8
-    ensures { result ≡ widened kind step }
-{
-    if 65_535 < step {
-        return STEPS_32;
-    }
-    if step <= 255 {
-        return kind;
-    }
-    if kind == STEPS_32 {
-        return STEPS_32;
-    }
-    STEPS_16
-}
+// A byte of another type is as one of the widest steps.
+impl From<u8> for Kind {
+    ghost from_gives = { λ byte kind. KindRead byte kind };
 
-// The width of the steps of a column, in bytes.
-pub fn kind_width(kind: u8) -> usize
-    ensures { (result ≡ kind_width kind) × (result ≤ 4) }
-{
-    if kind == STEPS_8 {
-        return 1;
+    #[tactic(auto, unfolding(crate::specs::Steps::kind_width, tokens::specs::Columns::step_type))]
+    fn from(byte: u8) -> Kind {
+        match byte {
+            0 => Kind::Strings,
+            3 => Kind::Steps16,
+            4 => Kind::Steps8,
+            _ => Kind::Steps32,
+        }
     }
-    if kind == STEPS_16 {
-        return 2;
-    }
-    4
-}
-
-// The size of a column of so many tokens, which takes `size` bytes as strings.
-pub fn column_size(kind: u8, size: usize, reads: usize) -> usize
-    requires { reads ≤ 50000 }
-    ensures { result ≡ column_size kind size reads }
-{
-    if kind == STRINGS {
-        return size;
-    }
-    if reads == 0 {
-        return 8;
-    }
-    8 + kind_width(kind) * (reads - 1)
 }

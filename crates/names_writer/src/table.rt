@@ -5,12 +5,13 @@ ghost use mathlib.Core.List.{flat_map};
 ghost use Rattle.base.specs.Lists.{total};
 ghost use Rattle.base.specs.Numbers.{le_bytes};
 ghost use Rattle.base.specs.Paste.{pasted};
-ghost use Rattle.names_writer.specs.Pieces.{table_of, start_places};
+ghost use Rattle.names_writer.specs.Pieces.{table_of, Started};
 
-use crate::pieces::put_bytes;
+use crate::pieces::Cursor;
 use integers::{put_u32, put_u64};
 
-// Writes the token count, the types and the sizes.
+// Writes the token count, the types and the sizes. `count` stands beside the tables since they are
+// lent whole, with room for 255: `put_section` asks for no slices of just the columns.
 pub fn put_table(kinds: &[u8], sizes: &[usize], count: usize, out: &mut [u8], at: usize)
     requires count_bound { (count ≤ 255) × (count ≤ length kinds.now) × (count ≤ length sizes.now) }
     requires count_in_bounds { at + (4 + 9 * count) ≤ length out.old }
@@ -18,7 +19,7 @@ pub fn put_table(kinds: &[u8], sizes: &[usize], count: usize, out: &mut [u8], at
         (table_of kinds.now sizes.now count) }
 {
     put_u32(out, at, count as u32);
-    put_bytes(&kinds[0..count], out, at + 4);
+    out[at + 4..at + 4 + count].copy_from_slice(&kinds[0..count]);
     put_lengths(sizes, count, out, at + 4 + count);
 }
 
@@ -28,25 +29,20 @@ fn put_lengths(sizes: &[usize], count: usize, out: &mut [u8], at: usize)
     ensures { out.new ≡ pasted out.old at
         (flat_map (le_bytes 8) (take count sizes.now)) }
 {
-    let mut k: usize = 0;
-    while k < count {
+    for k in 0..count {
         put_u64(out, at + 8 * k, sizes[k] as u64);
-        k += 1;
     }
 }
 
-// Where the columns start, the first at `start`, to the start of `places`.
-pub fn put_starts(sizes: &[usize], count: usize, start: usize, places: &mut [usize])
-    requires count_in_bounds { (count ≤ length sizes.now) × (count ≤ length places.old) }
-    requires sizes_bound { start + total (take count sizes.now) < 2 ^ 64 }
-    ensures { places.new ≡ pasted places.old 0
-        (start_places start sizes.now count) }
+// A cursor for each column, at its start; the first starts at `start`.
+pub fn put_starts(sizes: &[usize], start: usize, cursors: &mut [Cursor])
+    requires sizes_room { length cursors.old ≤ length sizes.now }
+    requires sizes_bound { start + total (take (length cursors.old) sizes.now) < 2 ^ 64 }
+    ensures { Started start sizes.now cursors.new }
 {
     let mut place = start;
-    let mut k: usize = 0;
-    while k < count {
-        places[k] = place;
+    for (k, cursor) in cursors.iter_mut().enumerate() {
+        *cursor = Cursor { last: None, place };
         place += sizes[k];
-        k += 1;
     }
 }

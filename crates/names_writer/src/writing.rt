@@ -7,30 +7,28 @@ ghost use Rattle.base.specs.Place.{At};
 ghost use Rattle.tokens.specs.Columns.{column_type, column_bytes};
 ghost use Rattle.tokens.specs.WrittenNames.{names_lent, token_count, columns_for};
 ghost use Rattle.names_writer.specs.Measured.{NamesFit};
-ghost use Rattle.names_writer.specs.Arrived.{column_lengths, PlacesLent};
+ghost use Rattle.names_writer.specs.Arrived.{column_lengths};
 
-use crate::pieces::put_row;
+use crate::parts::part_at;
+use crate::pieces::{Cursor, put_row};
 use crate::table::put_starts;
 use crate::tokeniser::split_name;
-use integers::size32;
 
-// Writes the columns from `start` on. `marks`, `values` and `places` are room for the ends of a
-// name's tokens, and for the number before and the place of each column.
+// Writes the columns from `start` on. `marks` is room for the ends of a name's tokens, and `cursors`
+// for one cursor a column.
 pub fn put_columns(
     names: &[u8],
     ends: &[u32],
     kinds: &[u8],
     sizes: &[usize],
-    count: usize,
-    marks: &mut [u8],
-    values: &mut [u64],
-    places: &mut [usize],
+    marks: &mut [u32],
+    cursors: &mut [Cursor],
     out: &mut [u8],
     start: usize,
 )
     requires names_fit { NamesFit names.now ends.now }
-    requires places_lent { PlacesLent marks.old values.old places.old }
-    requires count_value { (count ≡ token_count (names_lent names.now ends.now))
+    requires marks_room { 255 ≤ length marks.old }
+    requires columns { (length cursors.old ≡ token_count (names_lent names.now ends.now))
         × At kinds.now 0 (map column_type (columns_for (names_lent names.now ends.now)))
         × At sizes.now 0 (column_lengths (names_lent names.now ends.now)) }
     requires ends_in_bounds { start
@@ -39,15 +37,10 @@ pub fn put_columns(
     ensures { out.new ≡ pasted out.old start
         (flat_map column_bytes (columns_for (names_lent names.now ends.now))) }
 {
-    put_starts(sizes, count, start, places);
-    let mut from: usize = 0;
-    let mut i: usize = 0;
-    while i < ends.len() {
-        let to = size32(ends[i]);
-        let name = &names[from..to];
+    put_starts(sizes, start, cursors);
+    for i in 0..ends.len() {
+        let name = part_at(names, ends, i);
         split_name(name, marks);
-        put_row(i == 0, name, marks, count, kinds, values, places, out);
-        from = to;
-        i += 1;
+        put_row(name, marks, kinds, cursors, out);
     }
 }

@@ -29,7 +29,8 @@ ghost use Rattle.ora.specs.Answers.{span_of};
 
 use format::{BlockOutcome, EncodeOutcome, FileOutcome};
 use header::faults::header_fault;
-use header::{fields, sections};
+use header::sections;
+use header::table::Table;
 
 // ---- Reading
 
@@ -154,18 +155,19 @@ pub fn section_span(input: &[u8], number: u64) -> Span
 pub fn block_length(input: &[u8]) -> u64
     ensures { result ≡ length_answer input.now }
 {
-    if header_fault(input) != 0 {
-        return 0;
+    let refused = header_fault(input).is_err();
+    if !refused {
+        return Table { input }.block_length() as u64;
     }
-    sections::block_length(input) as u64
+    0
 }
 
 // The block's b_id; 0 if the header earns one of 2 to 8.
 pub fn block_id(input: &[u8]) -> u64
     ensures { result ≡ id_answer input.now }
 {
-    if header_fault(input) == 0 {
-        return fields::b_id(input);
+    if header_fault(input).is_err() {
+        return 0;
     }
-    0
+    Table { input }.b_id()
 }

@@ -6,12 +6,12 @@ use mathlib.Core.Bool.{true, false, Bool, cond, ◌||◌}
 use mathlib.Core.List.{List, [], ◌∷◌}
 use lib.ListN.{length, get_or}
 use borrow.Author.Tests.{lt-ltb, le-ltb, eq-eqb, ne_eqb, ltb-false}
+use Rattle.std.specs.Prelude.{Result, Ok, Err}
 use Rattle.base.specs.Lists.{AllBytes, any}
 use Rattle.base.specs.Numbers.{le}
 use Rattle.base.specs.Answer.{checked}
 use Rattle.dna.specs.Division.{flags_at, group_bit_stray, with_n_byte_wrong}
 use Rattle.dna.specs.Walk.{group_faults, Walk, refused_at}
-use Rattle.reads.specs.declared.groups.GroupStep.TheVariants as groups
 use Rattle.reads.specs.ReadWalk.{faults_before, record_place, begins_group}
 use Rattle.reads.specs.Cursor.{flags_of, group_before, group_step, source_of}
 use Rattle.reads.proofs.InsideLaws.{first_read_lem, not_first}
@@ -19,20 +19,23 @@ use Rattle.reads.proofs.GroupByteLaws.{flags-there}
 use lib.Dec.{ltb}
 use Rattle.base.specs.Faults.{Fault, NoneFits}
 use Rattle.reads.specs.declared.groups.GroupStep.{GroupStep}
-use Rattle.reads.specs.declared.groups.GroupStep.TheVariants as groups
 use Rattle.base.proofs.ListLaws.{by_test}
 use Rattle.base.proofs.Tests.{or-neither}
+
+-- The bytes of a group taken, with the record at a place.
+abbrev pub taken_at : (place group : ℕ) → Result GroupStep ℕ
+taken_at place group = Ok (record { at = place; group = group })
 
 module _ (dna ns : List ℕ) (reads read at group : ℕ) where
   -- Inside a group there is nothing to take.
   pub group_inside : (read % 8 ≡ 0 → ⊥)
-      → group_step dna ns reads read at group ≡ groups.Found at group
+      → group_step dna ns reads read at group ≡ taken_at at group
   unfolding group_step faults_before record_place group_before checked
   group_inside inside = rw (not_first read (omega (arith, inside)))
 
   module _ (bytes : ℕ) (begins : read % 8 ≡ 0) (all : AllBytes dna) where
     pub group_cut : length dna - at < 4 → at ≤ length dna
-        → group_step dna ns reads read at group ≡ groups.Refused 12
+        → group_step dna ns reads read at group ≡ Err 12
     unfolding group_step faults_before group_faults checked
     group_cut cut inside =
         rw (first_read_lem read begins) (simp (lt-ltb (length dna) (at + 4) (omega arith)))
@@ -44,7 +47,7 @@ module _ (dna ns : List ℕ) (reads read at group : ℕ) where
       -- A bit past the last read.
       pub group_stray : (left : ℕ) → left ≡ reads - read
           → group_bit_stray (min 8 left) (flags_of bytes) ≡ true
-          → group_step dna ns reads read at group ≡ groups.Refused 13
+          → group_step dna ns reads read at group ≡ Err 13
       unfolding group_step faults_before group_faults checked
       group_stray left e stray =
           rw (first_read_lem read begins, flags, ← e)
@@ -55,7 +58,7 @@ module _ (dna ns : List ℕ) (reads read at group : ℕ) where
           (same : n_byte ≡ get_or ns (read / 8) 0) where
         -- Another with-N byte than the N section's.
         pub group_other : (n_byte ≡ bytes / 65536 % 256 → ⊥)
-            → group_step dna ns reads read at group ≡ groups.Refused 11
+            → group_step dna ns reads read at group ≡ Err 11
         unfolding group_step faults_before group_faults checked with_n_byte_wrong flags_of
         group_other other =
             rw (first_read_lem read begins, flags, ← many, ← same)
@@ -66,7 +69,7 @@ module _ (dna ns : List ℕ) (reads read at group : ℕ) where
             ))
 
         pub group_taken : n_byte ≡ bytes / 65536 % 256
-            → group_step dna ns reads read at group ≡ groups.Found (at + 4) bytes
+            → group_step dna ns reads read at group ≡ taken_at (at + 4) bytes
         unfolding group_step faults_before group_faults checked with_n_byte_wrong record_place group_before
             flags_of
         group_taken equal =
@@ -82,16 +85,16 @@ module _ (dna ns : List ℕ) (reads read at group : ℕ) where
 -- What was refused of the group is refused of the read.
 pub refused-through : {A : Type 0} (read number place group : ℕ) (faults : List Fault)
     (rest : Walk A)
-    → checked groups.Refused faults (groups.Found place group) ≡ groups.Refused number
+    → checked Err faults (taken_at place group) ≡ Err number
     → checked (refused_at read) faults rest ≡ refused_at read number
 unfolding checked
 refused-through read number place group [] rest e =
     let z : ◌≡◌ {A = ℕ} 0 1 = cc in absurd (omega arith)
 refused-through {A} read number place group (f ∷ faults) rest e =
     let go : (t : Bool)
-    → cond {A = GroupStep} t (groups.Refused f.number)
-    (checked groups.Refused faults (groups.Found place group))
-    ≡ groups.Refused number
+    → cond {A = Result GroupStep ℕ} t (Err f.number)
+    (checked Err faults (taken_at place group))
+    ≡ Err number
     → cond {A = Walk A} t (refused_at read f.number) (checked (refused_at read) faults rest)
     ≡ refused_at read number
     = elim [
@@ -103,15 +106,19 @@ refused-through {A} read number place group (f ∷ faults) rest e =
 -- What was taken of the group goes on.
 pub taken-through : {A : Type 0} (read place place' group group' : ℕ) (faults : List Fault)
     (rest : Walk A)
-    → checked groups.Refused faults (groups.Found place group) ≡ groups.Found place' group'
+    → checked Err faults (taken_at place group) ≡ taken_at place' group'
     → (checked (refused_at read) faults rest ≡ rest) × ((place ≡ place') × (group ≡ group'))
 unfolding checked
-taken-through read place place' group group' [] rest e = (refl, (cc, cc))
+taken-through read place place' group group' [] rest e =
+    let same : ◌≡◌ {A = GroupStep} (record { at = place; group = group })
+    (record { at = place'; group = group' }) =
+    cc in
+    (refl, (ap (λ (s : GroupStep). s.at) same, ap (λ (s : GroupStep). s.group) same))
 taken-through {A} read place place' group group' (f ∷ faults) rest e =
     let go : (t : Bool)
-    → cond {A = GroupStep} t (groups.Refused f.number)
-    (checked groups.Refused faults (groups.Found place group))
-    ≡ groups.Found place' group'
+    → cond {A = Result GroupStep ℕ} t (Err f.number)
+    (checked Err faults (taken_at place group))
+    ≡ taken_at place' group'
     → (cond {A = Walk A} t (refused_at read f.number) (checked (refused_at read) faults rest)
     ≡ rest) × ((place ≡ place') × (group ≡ group'))
     = elim [
@@ -122,15 +129,15 @@ taken-through {A} read place place' group group' (f ∷ faults) rest e =
 
 -- A record's place is in the section.
 fits-through : (place place' group group' : ℕ) (faults : List Fault)
-    → checked groups.Refused faults (groups.Found place group) ≡ groups.Found place' group'
+    → checked Err faults (taken_at place group) ≡ taken_at place' group'
     → NoneFits faults
 unfolding checked any
 fits-through place place' group group' [] e = refl
 fits-through place place' group group' (f ∷ faults) e =
     let go : (t : Bool)
-    → cond {A = GroupStep} t (groups.Refused f.number)
-    (checked groups.Refused faults (groups.Found place group))
-    ≡ groups.Found place' group'
+    → cond {A = Result GroupStep ℕ} t (Err f.number)
+    (checked Err faults (taken_at place group))
+    ≡ taken_at place' group'
     → t || any (λ g. g.fits) faults ≡ false
     = elim [
       | true ↦ λ h. let z : ◌≡◌ {A = ℕ} 0 1 = cc in absurd (omega arith)
@@ -150,7 +157,7 @@ place_inside dna ns reads read at inside none =
     (λ t. rw t inside)
 
 pub group-place : (dna ns : List ℕ) (reads read at group place bytes : ℕ) → at ≤ length dna
-    → groups.Found place bytes ≡ group_step dna ns reads read at group → place ≤ length dna
+    → taken_at place bytes ≡ group_step dna ns reads read at group → place ≤ length dna
 unfolding group_step
 group-place dna ns reads read at group place bytes inside e =
     subst (λ (p : ℕ). p ≤ length dna)

@@ -7,6 +7,8 @@ use native.Mathlib.Omega.{arith}
 use mathlib.Core.Bool.{Bool, true, false, cond}
 use mathlib.Core.List.{List, [], ◌∷◌, map}
 use mathlib.Core.Option.{Option, none, some}
+use Rattle.lengths.specs.Cursor.{LengthStep}
+use Rattle.std.specs.Prelude.{Some, None}
 use Rattle.base.specs.Lists.{AllBytes}
 use Rattle.base.specs.Answer.{found, and_then}
 use Rattle.dna.specs.Record.{ReadContext}
@@ -15,8 +17,6 @@ use Rattle.base.proofs.AnswerLaws.{found-same, and_then-parts}
 use Rattle.dna.specs.Walk.{Walk}
 use Rattle.lengths.specs.Cursor.{length_step, cursor_ended, consed, on_step, lengths_left}
 use Rattle.lengths.specs.declared.SizeCursor.{SizeCursor}
-use Rattle.lengths.specs.declared.LengthStep.{LengthStep}
-use Rattle.lengths.specs.declared.LengthStep.TheVariants as lengths
 use Rattle.reads.specs.declared.ReadCursor.{ReadCursor}
 use Rattle.reads.specs.ReadWalk.{Source, Standing, FoundRead, read_at, standing_after}
 use Rattle.reads.specs.ReadWalk.{context_at, reads_left}
@@ -45,14 +45,14 @@ record NextLength (n : ℕ) (section : List ℕ) (step : LengthStep) (lengths' :
   size : ℕ
   next : SizeCursor
   rest : List ℕ
-  step_is : step ≡ lengths.Found size next
+  step_is : step ≡ Some (size, next)
   lengths_are : size ∷ rest ≡ lengths'
   left : lengths_left n section next ≡ some rest
 
 next-consed : (n : ℕ) (section : List ℕ) (size : ℕ) (next : SizeCursor)
     (rest : Option (List ℕ)) (lengths' : List ℕ) → lengths_left n section next ≡ rest
     → consed size rest ≡ some lengths'
-    → NextLength n section (lengths.Found size next) lengths'
+    → NextLength n section (Some (size, next)) lengths'
 unfolding consed
 next-consed n section size next none lengths' is e =
     let z : ◌≡◌ {A = ℕ} 0 1 = cc in absurd (omega arith)
@@ -62,9 +62,9 @@ next-consed n section size next (some rest) lengths' is e =
 next-length : (n : ℕ) (section : List ℕ) (step : LengthStep) (lengths' : List ℕ)
     → on_step step (lengths_left n section) ≡ some lengths' → NextLength n section step lengths'
 unfolding on_step
-next-length n section lengths.Refused lengths' e =
+next-length n section None lengths' e =
     let z : ◌≡◌ {A = ℕ} 0 1 = cc in absurd (omega arith)
-next-length n section (lengths.Found size next) lengths' e =
+next-length n section (Some (size, next)) lengths' e =
     next-consed n section size next (lengths_left n section next) lengths' refl e
 
 -- ---- Steps

@@ -3,6 +3,11 @@ use mathlib.Core.Path.{◌≡◌, refl, sym, ap, ap₂, ◌∙◌}
 use Prim.Native.Nat.{ℕ, ◌+◌, ◌%◌}
 use native.Mathlib.Omega.{arith}
 use mathlib.Core.List.{List}
+use Rattle.lengths.specs.Cursor.{LengthStep}
+use Rattle.std.specs.Prelude.{Result, Ok, Err, Some, None}
+use Rattle.records.specs.declared.Decoded.{Decoded}
+use Rattle.reads.specs.declared.Read.{Read}
+use Rattle.reads.specs.declared.ReadStep.{ReadStep}
 use Rattle.base.specs.Lists.{AllBytes}
 use Rattle.base.specs.Answer.{Scan, checked, found, refused, and_then, refused_as}
 use Rattle.dna.specs.Record.{ReadContext, RecordFields, perfect, global, local, raw, raw4}
@@ -10,25 +15,20 @@ use Rattle.dna.specs.Record.{StoredRecord}
 use Rattle.dna.specs.Alignment.{position_after, is_aligned}
 use Rattle.dna.specs.Division.{GroupFlags, context_of}
 use Rattle.dna.specs.RecordAt.{record_at}
-use Rattle.dna.specs.Walk.{of_read, Walk, refused_at}
+use Rattle.dna.specs.Walk.{of_read, ReadRefusal, Walk, refused_at}
 use Rattle.dna.specs.declared.Record.{Record}
 use Rattle.lengths.specs.Cursor.{length_step}
 use Rattle.lengths.specs.declared.SizeCursor.{SizeCursor}
-use Rattle.lengths.specs.declared.LengthStep.{LengthStep}
-use Rattle.lengths.specs.declared.LengthStep.TheVariants as lengths
 use Rattle.records.specs.Decoded.{record_of, layout_of, decoded_from, decoded_at}
 use Rattle.records.specs.declared.Layout.{Layout}
-use Rattle.records.specs.declared.Decoded.TheVariants as answers
 use Rattle.reads.specs.declared.ReadCursor.{ReadCursor}
-use Rattle.reads.specs.declared.ReadStep.TheVariants as steps
-use Rattle.reads.specs.declared.groups.GroupStep.TheVariants as groups
 use Rattle.reads.specs.ReadWalk.{Source, FoundRead, begins_group, faults_before, flags_before}
 use Rattle.reads.specs.ReadWalk.{record_place, context_at, read_at}
 use Rattle.reads.specs.Cursor.{flags_of, group_before, group_step, standing_of, cursor_after}
 use Rattle.reads.specs.Cursor.{Taken, step_of_length, read_step, read_in, position_in, step_answer}
 use Rattle.reads.proofs.GroupByteLaws.{flags-there}
 use Rattle.base.proofs.ListLaws.{by_test}
-use Rattle.reads.proofs.GroupStepLaws.{refused-through, taken-through}
+use Rattle.reads.proofs.GroupStepLaws.{taken_at, refused-through, taken-through}
 
 -- The bytes of the group, by the number that is at hand.
 pub flags-before : (source : Source) (cursor : ReadCursor) → AllBytes source.dna
@@ -53,26 +53,42 @@ pub record DecodedFound (context : ReadContext) (dna : List ℕ) (at : ℕ) (rec
 
 scan_found : (context : ReadContext) (dna : List ℕ) (at : ℕ) (record' : Record) (layout : Layout)
     (scan : Scan StoredRecord) → record_at context dna at ≡ scan
-    → answers.Found record' layout ≡ decoded_from context at scan
+    → Ok (record { «record» = record'; layout = layout }) ≡ decoded_from context at scan
     → DecodedFound context dna at record' layout
 unfolding decoded_from
 scan_found context dna at record' layout (found stored next) is e =
-    record { stored = stored; next = next; stands = is; record_is = cc; layout_is = cc }
+    let same : ◌≡◌ {A = Decoded} (record { «record» = record'; layout = layout })
+    (record {
+      «record» = record_of context stored.fields;
+      layout = layout_of context at stored next;
+    }) =
+    cc in
+    record {
+      stored = stored;
+      next = next;
+      stands = is;
+      record_is = ap (λ (d : Decoded). d.«record») same;
+      layout_is = ap (λ (d : Decoded). d.layout) same;
+    }
 scan_found context dna at record' layout (refused number) is e =
     let z : ◌≡◌ {A = ℕ} 0 1 = cc in absurd (omega arith)
 
 pub decoded-found : (context : ReadContext) (dna : List ℕ) (at : ℕ) (record' : Record)
-    (layout : Layout) → answers.Found record' layout ≡ decoded_at context dna at
+    (layout : Layout) → Ok (record { «record» = record'; layout = layout }) ≡ decoded_at context dna at
     → DecodedFound context dna at record' layout
 decoded-found context dna at record' layout e =
     scan_found context dna at record' layout (record_at context dna at) refl e
 
 scan-refused : (context : ReadContext) (at number : ℕ) (scan : Scan StoredRecord)
-    → answers.Refused number ≡ decoded_from context at scan → scan ≡ refused number
+    → Err number ≡ decoded_from context at scan → scan ≡ refused number
 unfolding decoded_from
 scan-refused context at number (found stored next) e =
     let z : ◌≡◌ {A = ℕ} 0 1 = cc in absurd (omega arith)
 scan-refused context at number (refused other) e = let is : other ≡ number = cc in ap refused is
+
+-- A read that was taken, and the cursor after it.
+abbrev pub step_taken : (read : Read) (cursor : ReadCursor) → Result ReadStep ReadRefusal
+step_taken read cursor = Ok (record { read = read; cursor = cursor })
 
 -- The position after a record, by the record of the code.
 pub position_in_lem : (context : ReadContext) (fields : RecordFields)
@@ -89,13 +105,13 @@ position_in_lem context (raw4 letters) = refl
 
 module _ (source : Source) (cursor : ReadCursor) where
   -- There is no length.
-  pub step_no_length : lengths.Refused ≡ length_step source.sizes cursor.sizes
-      → steps.Refused 9 0 ≡ step_answer (read_step source cursor)
+  pub step_no_length : None ≡ length_step source.sizes cursor.sizes
+      → Err (of_read 0 9) ≡ step_answer (read_step source cursor)
   unfolding read_step step_of_length step_answer
   step_no_length e = ap (λ (s : LengthStep). step_answer (step_of_length source cursor s)) e
 
   module _ (bytes : AllBytes source.dna) (size : ℕ) (sizes : SizeCursor)
-      (long : lengths.Found size sizes ≡ length_step source.sizes cursor.sizes) where
+      (long : Some (size, sizes) ≡ length_step source.sizes cursor.sizes) where
     abbrev taking : Walk FoundRead → Walk Taken
     taking answer =
         and_then answer (λ read end.
@@ -110,10 +126,10 @@ module _ (source : Source) (cursor : ReadCursor) where
 
     -- The bytes of the group are refused.
     pub step_no_group : (number : ℕ)
-        → groups.Refused number
+        → Err number
         ≡ group_step source.dna source.ns source.reads cursor.read cursor.at
         cursor.group
-        → steps.Refused number cursor.read ≡ step_answer (read_step source cursor)
+        → Err (of_read cursor.read number) ≡ step_answer (read_step source cursor)
     unfolding group_step faults_before read_at and_then step_answer
     step_no_group number e =
         sym
@@ -124,7 +140,7 @@ module _ (source : Source) (cursor : ReadCursor) where
         _ (sym e))))
 
     module _ (at group : ℕ)
-        (grouped : groups.Found at group
+        (grouped : taken_at at group
         ≡ group_step source.dna source.ns source.reads cursor.read cursor.at
         cursor.group) where
       abbrev context : ReadContext
@@ -170,8 +186,8 @@ module _ (source : Source) (cursor : ReadCursor) where
 
       -- The record is refused.
       pub step_no_record : (number : ℕ)
-          → answers.Refused number ≡ decoded_at context source.dna at
-          → steps.Refused number cursor.read ≡ step_answer (read_step source cursor)
+          → Err number ≡ decoded_at context source.dna at
+          → Err (of_read cursor.read number) ≡ step_answer (read_step source cursor)
       unfolding and_then refused_as step_answer
       step_no_record number e =
           sym
@@ -188,9 +204,9 @@ module _ (source : Source) (cursor : ReadCursor) where
 
       -- A read was found.
       pub step_found : (record' : Record) (layout : Layout) (position' : ℕ)
-          → answers.Found record' layout ≡ decoded_at context source.dna at
+          → Ok (record { «record» = record'; layout = layout }) ≡ decoded_at context source.dna at
           → position' ≡ position_in record' cursor.position
-          → steps.Found (record { length = size; «record» = record'; layout = layout })
+          → step_taken (record { length = size; «record» = record'; layout = layout })
           (record {
             at = layout.end;
             position = position';
@@ -211,7 +227,7 @@ module _ (source : Source) (cursor : ReadCursor) where
           let here : group ≡ group_before source.dna cursor.read cursor.at cursor.group =
           sym (through nothing).1.1 in
           (λ t.
-          steps.Found
+          step_taken
           (record { length = size; «record» = d.record_is t; layout = d.layout_is t })
           (record {
             at = end t;

@@ -6,6 +6,8 @@ use mathlib.Core.Bool.{Bool, true, false, cond}
 use mathlib.Core.List.{List, [], ◌∷◌}
 use lib.ListN.{length}
 use lib.Dec.{eqb}
+use Rattle.lengths.specs.Cursor.{LengthStep}
+use Rattle.std.specs.Prelude.{Ok, Err, Some, None}
 use Rattle.base.specs.Lists.{AllBytes, build, count_true}
 use Rattle.base.specs.Answer.{found, refused, refused_as}
 use Rattle.base.proofs.ListLaws.{length-build, by_test}
@@ -19,13 +21,11 @@ use Rattle.dna.specs.Counts.{is_difference, top_of, record_counts}
 use Rattle.dna.specs.Division.{context_of}
 use Rattle.dna.specs.RecordAt.{record_at}
 use Rattle.dna.specs.Rules.{RulesHold}
-use Rattle.dna.specs.Walk.{of_read, Walk, refused_at}
+use Rattle.dna.specs.Walk.{ReadRefusal, Walk, of_read}
 use Rattle.dna.proofs.RecordSound.{RecordFoundAt, record-found}
 use Rattle.dna.proofs.StretchMeans.{position-inside}
 use Rattle.dna.proofs.RulesMean.{rules_mean}
 use Rattle.lengths.specs.Cursor.{length_step}
-use Rattle.lengths.specs.declared.LengthStep.{LengthStep}
-use Rattle.lengths.specs.declared.LengthStep.TheVariants as lengths
 use Rattle.lengths.proofs.StepLaws.{step_ranged}
 use Rattle.records.specs.Decoded.{layout_of}
 use Rattle.record_letters.specs.Laid.{fields_in, stored_in, context_in}
@@ -33,8 +33,8 @@ use Rattle.record_letters.specs.Printed.{Printable}
 use Rattle.record_letters.proofs.DecodedLaid.{decoded-printable}
 use Rattle.record_letters.proofs.LaidLaws.{letters_laid, differences_laid}
 use Rattle.reads.specs.declared.Read.{Read}
+use Rattle.reads.specs.declared.ReadStep.{ReadStep}
 use Rattle.reads.specs.declared.ReadCursor.{ReadCursor}
-use Rattle.reads.specs.declared.ReadStep.TheVariants as steps
 use Rattle.reads.specs.ReadWalk.{Source, Standing, FoundRead, faults_before, context_at}
 use Rattle.reads.specs.ReadWalk.{record_place, read_at}
 use Rattle.reads.specs.Cursor.{SourceFits, CursorFits, standing_of, cursor_after, Taken}
@@ -54,40 +54,48 @@ pub record StepTook (source : Source) (cursor : ReadCursor) (read : Read) (next 
   pub next_is : next ≡ taken.cursor
 
 took : (source : Source) (cursor : ReadCursor) (read : Read) (next : ReadCursor)
-    (step : Walk Taken) → read_step source cursor ≡ step → steps.Found read next ≡ step_answer step
+    (step : Walk Taken) → read_step source cursor ≡ step → Ok (record { read = read; cursor = next }) ≡ step_answer step
     → StepTook source cursor read next
 unfolding step_answer
 took source cursor read next (found taken end) is e =
-    record { taken = taken; end = end; stepped = is; read_is = cc; next_is = cc }
+    let same : ◌≡◌ {A = ReadStep} (record { read = read; cursor = next })
+    (record { read = read_in taken.read; cursor = taken.cursor }) =
+    cc in
+    record {
+      taken = taken;
+      end = end;
+      stepped = is;
+      read_is = ap (λ (s : ReadStep). s.read) same;
+      next_is = ap (λ (s : ReadStep). s.cursor) same;
+    }
 took source cursor read next (refused why) is e =
     let z : ◌≡◌ {A = ℕ} 0 1 = cc in absurd (omega arith)
 
 pub step-took : (source : Source) (cursor : ReadCursor) (read : Read) (next : ReadCursor)
-    → steps.Found read next ≡ step_answer (read_step source cursor)
+    → Ok (record { read = read; cursor = next }) ≡ step_answer (read_step source cursor)
     → StepTook source cursor read next
 step-took source cursor read next e =
     took source cursor read next (read_step source cursor) refl e
 
 -- What a step of the code refused.
-pub record StepRefused (source : Source) (cursor : ReadCursor) (number read : ℕ) : Type 0 where
-  pub stepped : read_step source cursor ≡ refused_at read number
+pub record StepRefused (source : Source) (cursor : ReadCursor) (why : ReadRefusal) : Type 0 where
+  pub stepped : read_step source cursor ≡ refused why
 
-refuses : (source : Source) (cursor : ReadCursor) (number read : ℕ) (step : Walk Taken)
-    → read_step source cursor ≡ step → steps.Refused number read ≡ step_answer step
-    → StepRefused source cursor number read
+refuses : (source : Source) (cursor : ReadCursor) (why : ReadRefusal) (step : Walk Taken)
+    → read_step source cursor ≡ step → Err why ≡ step_answer step
+    → StepRefused source cursor why
 unfolding step_answer
-refuses source cursor number read (found taken end) is e =
+refuses source cursor why (found taken end) is e =
     let z : ◌≡◌ {A = ℕ} 0 1 = cc in absurd (omega arith)
-refuses source cursor number read (refused why) is e =
-    let n : why.number ≡ number = cc in
-    let r : why.read ≡ read = cc in
-    record { stepped = is ∙ (λ t. refused (record { number = n t; read = r t })) }
+refuses source cursor why (refused why') is e =
+    let same : why' ≡ why = cc in
+    record { stepped = is ∙ ap refused same }
 
-pub step-refused : (source : Source) (cursor : ReadCursor) (number read : ℕ)
-    → steps.Refused number read ≡ step_answer (read_step source cursor)
-    → StepRefused source cursor number read
-step-refused source cursor number read e =
-    refuses source cursor number read (read_step source cursor) refl e
+pub step-refused : (source : Source) (cursor : ReadCursor) (why : ReadRefusal)
+    → Err why ≡ step_answer (read_step source cursor)
+    → StepRefused source cursor why
+step-refused source cursor why e =
+    refuses source cursor why (read_step source cursor) refl e
 
 -- ---- The read
 
@@ -133,8 +141,8 @@ length-stands : (source : Source) (cursor : ReadCursor) (taken : Taken) (end : �
     (step : LengthStep) → length_step source.sizes cursor.sizes ≡ step
     → step_of_length source cursor step ≡ found taken end → TakenStands source cursor taken end
 unfolding step_of_length cursor_after context_at context_of
-length-stands source cursor taken end lengths.Refused is e = absurd-found e
-length-stands source cursor taken end (lengths.Found size next) is e =
+length-stands source cursor taken end None is e = absurd-found e
+length-stands source cursor taken end (Some (size, next)) is e =
     and_then-parts (read_at source (standing_of cursor) size cursor.at) _ e (λ read end' e₁ e₂.
     let same = found-same e₂ in
     let there = read-stands source (standing_of cursor) size cursor.at read end' e₁ in

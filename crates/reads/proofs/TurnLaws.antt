@@ -6,17 +6,17 @@ use native.Mathlib.Nat.{not-suc-le-zero}
 use native.Mathlib.Omega.{arith}
 use mathlib.Core.Bool.{Bool, true}
 use mathlib.Core.List.{List, [], ◌∷◌}
+use Rattle.std.specs.Prelude.{Result, Ok, Err}
 use Rattle.base.specs.Answer.{found, refused, and_then}
 use Rattle.base.proofs.Tests.{absurd_test}
 use Rattle.dna.specs.Counts.{Counted, zero_counts, plus, sum_counts}
-use Rattle.dna.specs.Walk.{ReadRefusal, Walk, refused_at}
+use Rattle.dna.specs.Walk.{ReadRefusal, Walk}
 use Rattle.dna.specs.declared.Counts.{Counts}
 use Rattle.dna.proofs.PlusLaws.{none-plus, plus_none, plus_assoc}
 use Rattle.format.specs.Answered.{counted_of}
 use Rattle.reads.specs.declared.Read.{Read}
 use Rattle.reads.specs.declared.ReadCursor.{ReadCursor}
 use Rattle.reads.specs.declared.Walked.{Walked}
-use Rattle.reads.specs.declared.Walked.TheVariants as walks
 use Rattle.reads.specs.ReadWalk.{Source}
 use Rattle.reads.specs.Cursor.{Taken, Arrived, read_step, read_steps, read_in}
 use Rattle.reads.specs.Walked.{found_reads, is_arrived, read_counts, reads_counts, counts_of}
@@ -74,14 +74,19 @@ reads_found source cursor n {taken} more e arrives =
 
 -- ---- The answer
 
+-- It arrived.
+abbrev pub walked_at : (cursor : ReadCursor) (last : Read) (counts : Counts)
+    → Result Walked ReadRefusal
+walked_at cursor last counts = Ok (record { cursor = cursor; last = last; counts = counts })
+
 -- What a walk answers with these counts and this read before it.
 unfoldable pub walked_on : (differences : Bool) (reference : List ℕ) (counts : Counts) (last : Read)
-    (walk : Walk Arrived) → Walked
+    (walk : Walk Arrived) → Result Walked ReadRefusal
 walked_on differences reference counts last (found arrived next) =
-    walks.At arrived.cursor (last_of last arrived.reads)
+    walked_at arrived.cursor (last_of last arrived.reads)
     (counts_of (plus (counted_of counts) (reads_counts differences reference arrived.reads)))
 walked_on differences reference counts last (refused why) =
-    walks.Refused why.number why.read
+    Err why
 
 -- Before the first turn.
 pub walked-first : (differences : Bool) (reference : List ℕ) (counts : Counts) (last : Read)
@@ -93,7 +98,7 @@ walked-first differences reference counts last (found arrived next) none first =
     sym
     (ap₂
     (λ (c : Counted) (r : Read).
-    walks.At arrived.cursor (last_of r arrived.reads) (counts_of c))
+    walked_at arrived.cursor (last_of r arrived.reads) (counts_of c))
     (ap (λ (c : Counts). plus (counted_of c) later) none ∙ none-plus later) first)
 walked-first differences reference counts last (refused why) none first = refl
 
@@ -110,12 +115,12 @@ walked_more differences reference counts counts' last last' taken (found arrived
     let later : Counted = reads_counts differences reference arrived.reads in
     ap
     (λ (c : Counted).
-    walks.At arrived.cursor (last_of (read_in taken.read) arrived.reads) (counts_of c))
+    walked_at arrived.cursor (last_of (read_in taken.read) arrived.reads) (counts_of c))
     (sym (plus_assoc (counted_of counts) now' later))
     ∙ sym
     (ap₂
     (λ (c : Counts) (r : Read).
-    walks.At arrived.cursor (last_of r arrived.reads) (counts_of (plus (counted_of c) later)))
+    walked_at arrived.cursor (last_of r arrived.reads) (counts_of (plus (counted_of c) later)))
     more is)
 walked_more differences reference counts counts' last last' taken (refused why) more is = refl
 
@@ -138,18 +143,17 @@ module _ (differences : Bool) (reference : List ℕ) (counts : Counts) (last : R
       (sym there)
 
   -- A refusal is passed on.
-  pub walked_refused : (number read : ℕ) → 0 < n → read_step source cursor ≡ refused_at read number
-      → walked_on differences reference counts last (read_steps n source cursor)
-      ≡ walks.Refused number read
+  pub walked_refused : (why : ReadRefusal) → 0 < n → read_step source cursor ≡ refused why
+      → walked_on differences reference counts last (read_steps n source cursor) ≡ Err why
   unfolding walked_on
-  walked_refused number read more e =
+  walked_refused why more e =
       ap (walked_on differences reference counts last) (steps_refused source cursor n more e)
 
   -- No step is left.
   pub walked_end : n ≤ 0
       → walked_on differences reference counts last (read_steps n source cursor)
-      ≡ walks.At cursor last counts
+      ≡ walked_at cursor last counts
   unfolding walked_on last_of reads_counts sum_counts
   walked_end none =
       ap (walked_on differences reference counts last) (steps_none source cursor n none)
-      ∙ ap (λ (c : Counted). walks.At cursor last (counts_of c)) (plus_none (counted_of counts))
+      ∙ ap (λ (c : Counted). walked_at cursor last (counts_of c)) (plus_none (counted_of counts))

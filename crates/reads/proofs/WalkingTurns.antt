@@ -6,17 +6,19 @@ use native.Mathlib.Omega.{arith}
 use mathlib.Core.Bool.{Bool, true, cond, ◌||◌}
 use mathlib.Core.List.{List, [], ◌∷◌, ◌++◌}
 use lib.ListN.{length}
+use Rattle.std.specs.Prelude.{Ok, Err}
 use Rattle.base.specs.Lists.{AllBytes}
 use Rattle.base.specs.Paste.{pasted}
 use Rattle.dna.specs.Reference.{ReferenceFits}
 use Rattle.dna.specs.Counts.{plus}
-use Rattle.dna.specs.Walk.{refused_at}
+use Rattle.dna.specs.Refused.{read_refusal, numbered_block}
+use Rattle.dna.specs.declared.refusals.BlockRefusal.{BlockRefusal}
+use Rattle.base.specs.Answer.{refused}
 use Rattle.dna.specs.declared.Counts.{Counts}
 use Rattle.format.specs.Answered.{counted_of}
 use Rattle.record_letters.specs.Printed.{Printable}
 use Rattle.reads.specs.declared.Read.{Read}
 use Rattle.reads.specs.declared.ReadCursor.{ReadCursor}
-use Rattle.reads.specs.declared.Walked.TheVariants as walks
 use Rattle.reads.specs.ReadWalk.{Source}
 use Rattle.reads.specs.Cursor.{SourceFits, CursorFits, read_step, read_steps, read_in}
 use Rattle.reads.specs.Walked.{read_letters, read_size, letters_of, ends_of, read_counts, counts_of}
@@ -270,18 +272,19 @@ module _ (source : Source) (reference : List ℕ) (start : ReadCursor) (steps : 
   -- ---- The end
 
   -- A refusal is passed on.
-  pub walking_refused : (number read : ℕ) → turns < steps
-      → read_step source cursor ≡ refused_at read number
-      → WalkDone (read_steps steps source start) write count reference (walks.Refused number read)
+  pub walking_refused : (why : BlockRefusal) → turns < steps
+      → read_step source cursor ≡ refused (read_refusal why)
+      → WalkDone (read_steps steps source start) write count reference (Err why)
       letters_before letters ends_before ends
-  walking_refused number read more e =
+  unfolding numbered_block
+  walking_refused why more e =
       let left : 0 < steps - turns = omega arith in
       record {
         answered =
             sym
             (walking.answer
             ∙ walked_refused (write || count) reference counts last source cursor (steps - turns)
-            number read left e);
+            (read_refusal why) left e);
         letters_are =
             sym
             (walking.letters_are
@@ -297,7 +300,8 @@ module _ (source : Source) (reference : List ℕ) (start : ReadCursor) (steps : 
   -- All steps are taken.
   pub walking_end : steps ≤ turns
       → WalkDone (read_steps steps source start) write count reference
-      (walks.At cursor last counts) letters_before letters ends_before ends
+      (Ok (record { cursor = cursor; last = last; counts = counts })) letters_before letters ends_before ends
+  unfolding numbered_block
   walking_end done =
       let none : steps - turns ≤ 0 = omega arith in
       record {

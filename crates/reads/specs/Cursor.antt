@@ -1,27 +1,23 @@
 -- The cursor of the code: where it stands in the terms of specs/ReadWalk.antt, a step from it, and
 -- so many steps. Laws join it to the walk over a whole block (proofs/ReadLaws.antt).
-use Rattle.std.specs.Prelude.{◌≡◌, ℕ, zero, suc, ◌+◌, ◌/◌, ◌%◌, ◌^◌, ◌≤◌, ◌<◌, Bool, cond, List, [], ◌∷◌, length}
+use Rattle.std.specs.Prelude.{◌≡◌, ℕ, zero, suc, ◌+◌, ◌/◌, ◌%◌, ◌^◌, ◌≤◌, ◌<◌, Bool, cond, List, [], ◌∷◌, length, Option, Some, None, Result, Ok, Err}
 use Rattle.base.specs.Groups.{group_count}
 use Rattle.base.specs.Numbers.{le}
 use Rattle.base.specs.Packed.{bit}
 use Rattle.base.specs.Answer.{checked, found, refused, and_then}
 use Rattle.dna.specs.Alignment.{position_after}
 use Rattle.dna.specs.Division.{GroupFlags}
-use Rattle.dna.specs.Walk.{Walk, refused_at}
+use Rattle.dna.specs.Walk.{Walk, ReadRefusal, refused_at}
 use Rattle.dna.specs.declared.Record.{Record}
 use Rattle.dna.specs.declared.Record.TheVariants as kinds
 use Rattle.lengths.specs.Cursor.{first_cursor, length_step}
 use Rattle.lengths.specs.declared.SizeCursor.{SizeCursor}
-use Rattle.lengths.specs.declared.LengthStep.{LengthStep}
-use Rattle.lengths.specs.declared.LengthStep.TheVariants as lengths
 use Rattle.records.specs.Decoded.{record_of, layout_of}
 use Rattle.records.specs.declared.Bits.{Bits}
 use Rattle.reads.specs.declared.ReadCursor.{ReadCursor}
 use Rattle.reads.specs.declared.Read.{Read}
 use Rattle.reads.specs.declared.ReadStep.{ReadStep}
-use Rattle.reads.specs.declared.ReadStep.TheVariants as steps
 use Rattle.reads.specs.declared.groups.GroupStep.{GroupStep}
-use Rattle.reads.specs.declared.groups.GroupStep.TheVariants as groups
 use Rattle.reads.specs.ReadWalk.{Source, Standing, FoundRead, begins_group, faults_before}
 use Rattle.reads.specs.ReadWalk.{record_place, read_at}
 
@@ -63,10 +59,10 @@ unfoldable pub group_before : (dna : List ℕ) (read at group : ℕ) → ℕ
 group_before dna read at group = cond (begins_group read) (le 4 dna at) group
 
 -- Judging and taking them.
-unfoldable pub group_step : (dna ns : List ℕ) (reads read at group : ℕ) → GroupStep
+unfoldable pub group_step : (dna ns : List ℕ) (reads read at group : ℕ) → Result GroupStep ℕ
 group_step dna ns reads read at group =
-    checked groups.Refused (faults_before (source_of dna [] ns reads 0) read at)
-    (groups.Found (record_place read at) (group_before dna read at group))
+    checked Err (faults_before (source_of dna [] ns reads 0) read at)
+    (Ok (record { at = record_place read at; group = group_before dna read at group }))
 
 -- ---- A step
 
@@ -107,12 +103,12 @@ pub record Taken : Type 0 where
   pub cursor : ReadCursor
 
 -- The step by the length of the next read. Whatever is wrong with the lengths is 9, for the block.
-unfoldable pub step_of_length : (source : Source) (cursor : ReadCursor) (step : LengthStep)
+unfoldable pub step_of_length : (source : Source) (cursor : ReadCursor) (step : Option (ℕ × SizeCursor))
     → Walk Taken
-step_of_length source cursor (lengths.Found size next) =
+step_of_length source cursor (Some (size, next)) =
     and_then (read_at source (standing_of cursor) size cursor.at) (λ read end.
     found (record { read = read; cursor = cursor_after source cursor next read }) end)
-step_of_length source cursor lengths.Refused = refused_at 0 9
+step_of_length source cursor None = refused_at 0 9
 
 -- The next read.
 unfoldable pub read_step : (source : Source) (cursor : ReadCursor) → Walk Taken
@@ -151,6 +147,7 @@ position_in (kinds.Local placement) previous = placement.position
 position_in kinds.Raw previous = previous
 position_in kinds.Raw4 previous = previous
 
-unfoldable pub step_answer : (step : Walk Taken) → ReadStep
-step_answer (found taken next) = steps.Found (read_in taken.read) taken.cursor
-step_answer (refused why) = steps.Refused why.number why.read
+unfoldable pub step_answer : (step : Walk Taken) → Result ReadStep ReadRefusal
+step_answer (found taken next) =
+    Ok (record { read = read_in taken.read; cursor = taken.cursor })
+step_answer (refused why) = Err why

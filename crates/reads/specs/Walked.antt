@@ -1,13 +1,15 @@
 -- What a walk of so many steps answers and leaves in the lent buffers, from the reads that it
 -- found. Where it writes, the letters and ends begin at the start of the buffers.
-use Rattle.std.specs.Prelude.{ℕ, ◌+◌, ◌^◌, ◌≤◌, ◌<◌, ◌≡◌, Bool, true, false, cond, ◌||◌}
+use Rattle.std.specs.Prelude.{ℕ, ◌+◌, ◌^◌, ◌≤◌, ◌<◌, ◌≡◌, Bool, true, false, cond, ◌||◌, Result, Ok, Err}
 use mathlib.Core.List.{List, [], ◌∷◌, map, flatten}
 use Rattle.base.specs.Lists.{total, places_from}
 use Rattle.base.specs.Paste.{pasted}
 use Rattle.base.specs.Answer.{found, refused}
 use Rattle.dna.specs.Letters.{record_letters}
 use Rattle.dna.specs.Counts.{Counted, sum_counts, top_of, record_counts}
-use Rattle.dna.specs.Walk.{Walk}
+use Rattle.dna.specs.Walk.{Walk, ReadRefusal}
+use Rattle.dna.specs.Refused.{numbered_block}
+use Rattle.dna.specs.declared.refusals.BlockRefusal.{BlockRefusal}
 use Rattle.dna.specs.declared.Counts.{Counts}
 use Rattle.dna.specs.declared.Record.TheVariants as kinds
 use Rattle.reference.specs.Tables.{word_table}
@@ -15,7 +17,6 @@ use Rattle.record_letters.specs.Laid.{stored_in, context_in}
 use Rattle.record_letters.specs.Printed.{pair_words}
 use Rattle.reads.specs.declared.Read.{Read}
 use Rattle.reads.specs.declared.Walked.{Walked}
-use Rattle.reads.specs.declared.Walked.TheVariants as walks
 use Rattle.reads.specs.ReadWalk.{FoundRead}
 use Rattle.reads.specs.Cursor.{Arrived, read_in}
 
@@ -115,11 +116,15 @@ last_of before [] = before
 last_of before (read ∷ reads) = last_of (read_in read) reads
 
 unfoldable pub walk_answer : (differences : Bool) (reference : List ℕ) (walk : Walk Arrived)
-    → Walked
+    → Result Walked ReadRefusal
 walk_answer differences reference (found arrived next) =
-    walks.At arrived.cursor (last_of no_read arrived.reads)
-    (counts_of (reads_counts differences reference arrived.reads))
-walk_answer differences reference (refused why) = walks.Refused why.number why.read
+    Ok
+    (record {
+      cursor = arrived.cursor;
+      last = last_of no_read arrived.reads;
+      counts = counts_of (reads_counts differences reference arrived.reads);
+    })
+walk_answer differences reference (refused why) = Err why
 
 -- The buffers, if the walk writes.
 unfoldable pub letters_after : (write : Bool) (reference : List ℕ) (walk : Walk Arrived)
@@ -132,8 +137,8 @@ ends_after write walk ends = cond write (pasted ends 0 (ends_of 0 (found_reads w
 
 -- What a call of the walk gives, and what it leaves in the buffers.
 pub record WalkDone (walk : Walk Arrived) (write count : Bool) (reference : List ℕ)
-    (answer : Walked) (letters_before letters_now ends_before ends_now : List ℕ) : Type 0 where
-  pub answered : answer ≡ walk_answer (write || count) reference walk
+    (answer : Result Walked BlockRefusal) (letters_before letters_now ends_before ends_now : List ℕ) : Type 0 where
+  pub answered : numbered_block answer ≡ walk_answer (write || count) reference walk
   pub letters_are : letters_now ≡ letters_after write reference walk letters_before
   pub ends_are : ends_now ≡ ends_after write walk ends_before
 

@@ -2,17 +2,18 @@
 ghost use Rattle.std.specs.Prelude.{◌≡◌, ◌%◌, ◌≤◌, ◌<◌, min, length};
 ghost use Rattle.base.specs.Groups.{group_count};
 ghost use Rattle.dna.specs.Division.{group_bit_stray};
+ghost use Rattle.dna.specs.Refused.{numbered};
 ghost use Rattle.reads.specs.Cursor.{flags_of, bits_at, group_step};
 
-use dna::refusals::{DNA_TRUNCATED, FLAG_BIT_STRAY, N_SECTION_WRONG};
-use integers::{size32, u32_at, wide16, wide32};
+use dna::refusals::Refusal;
+use integers::u32_at;
 use records::Bits;
 
 // Where a read's record stands, and the bytes of its group.
 #[derive(Clone, Copy)]
-pub enum GroupStep {
-    Found(usize, u32),
-    Refused(u32),
+pub struct GroupStep {
+    pub at: usize,
+    pub group: u32,
 }
 
 // At the first read of a group its bytes are judged, with 12, 13 and 11, and taken.
@@ -23,25 +24,28 @@ pub fn take_group(
     read: u32,
     at: usize,
     group: u32,
-) -> GroupStep
+) -> Result<GroupStep, Refusal>
     requires { (at ≤ length dna.now) × (read < reads) × (length ns.now ≡ group_count reads) }
-    ensures { result ≡ group_step dna.now ns.now reads read at group }
+    ensures { numbered result ≡ group_step dna.now ns.now reads read at group }
 {
     if read % 8 != 0 {
-        return GroupStep::Found(at, group);
+        return Ok(GroupStep { at, group });
     }
     if dna.len() - at < 4 {
-        return GroupStep::Refused(DNA_TRUNCATED);
+        return Err(Refusal::DnaTruncated);
     }
     let bytes = u32_at(dna, at);
-    let index = size32(read);
+    let index = read as usize;
     if bit_is_stray(bytes, reads - index) {
-        return GroupStep::Refused(FLAG_BIT_STRAY);
+        return Err(Refusal::FlagBitStray);
     }
-    if wide32(wide16(ns[index / 8])) != bytes / 65536 % 256 {
-        return GroupStep::Refused(N_SECTION_WRONG);
+    if u32::from(ns[index / 8]) != bytes / 65536 % 256 {
+        return Err(Refusal::NSectionWrong);
     }
-    GroupStep::Found(at + 4, bytes)
+    Ok(GroupStep {
+        at: at + 4,
+        group: bytes,
+    })
 }
 
 // Whether a bit past the last of `left` reads is set, in any of the four bytes.

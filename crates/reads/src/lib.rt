@@ -7,7 +7,8 @@
 ghost use Rattle.std.specs.Prelude.{◌≡◌, true, ◌+◌, ◌≤◌, ◌<◌, length};
 ghost use Rattle.base.specs.Numbers.{non_negative};
 ghost use Rattle.dna.specs.Reference.{ReferenceFits};
-ghost use Rattle.dna.specs.Counts.{zero_counts, plus};
+ghost use Rattle.dna.specs.Counts.{plus};
+ghost use Rattle.dna.specs.Refused.{numbered_block};
 ghost use Rattle.format.specs.Answered.{counted_of};
 ghost use Rattle.reads.specs.Cursor.{
   source_of,
@@ -28,13 +29,13 @@ ghost use Rattle.reads.specs.Walked.{
   CountsAdd,
 };
 
-use crate::groups::{GroupStep, bits_of, take_group};
+use crate::groups::{bits_of, take_group};
 use crate::visit::visit_read;
-use dna::refusals::LENGTHS_INVALID;
+use dna::refusals::{BlockRefusal, Refusal};
 use dna::{Counts, Record};
-use integers::{size32, size64, wide64};
-use lengths::{LengthStep, SizeCursor, first_cursor, next_length};
-use records::{Decoded, Layout, decode_record};
+use lengths::{SizeCursor, first_cursor, next_length};
+use records::context::Context;
+use records::{Layout, decode_record};
 
 pub mod groups;
 pub mod visit;
@@ -63,21 +64,19 @@ pub struct Read {
     pub layout: Layout,
 }
 
-// The next read, and the cursor after it.
+// A read, and the cursor after it.
 #[derive(Clone, Copy)]
-pub enum ReadStep {
-    Found(Read, ReadCursor),
-    // The number of refusal, and the index of the read.
-    Refused(u32, u64),
+pub struct ReadStep {
+    pub read: Read,
+    pub cursor: ReadCursor,
 }
 
-// So many reads from a cursor on.
+// So many reads from a cursor on: the cursor after them, the last of them, and their counts.
 #[derive(Clone, Copy)]
-pub enum Walked {
-    // The cursor after them, the last of them, and their counts.
-    At(ReadCursor, Read, Counts),
-    // The number of refusal, and the index of the read.
-    Refused(u32, u64),
+pub struct Walked {
+    pub cursor: ReadCursor,
+    pub last: Read,
+    pub counts: Counts,
 }
 
 // The cursor at the first read. With flag 0x1, `fixed`, each length is l_read, here `each`.
@@ -112,7 +111,7 @@ pub fn walk(
     pair_table: &[u16; 256],
     letters: &mut [u8],
     ends: &mut [u32],
-) -> Walked
+) -> Result<Walked, BlockRefusal>
     requires source_fits { (SourceFits (source_of dna.now sizes.now ns.now reads bases))
         × (ReferenceFits bases reference.now)
         × (CursorFits dna.now start)
@@ -129,36 +128,33 @@ pub fn walk(
 {
     let mut cursor = start;
     let mut last = no_read();
-    let mut counts = no_counts();
-    let mut i: usize = 0;
-    while i < steps {
-        let step = next_read(dna, sizes, ns, reads, bases, cursor);
-        match step {
-            ReadStep::Refused(number, read) => return Walked::Refused(number, read),
-            ReadStep::Found(read, next) => {
-                let from = size64(counts.letters);
-                let visited = visit_read(
-                    reference,
-                    dna,
-                    read,
-                    count,
-                    write,
-                    forward_table,
-                    reverse_table,
-                    pair_table,
-                    letters,
-                    from,
-                    ends,
-                    i,
-                );
-                counts = counts_added(counts, visited);
-                last = read;
-                cursor = next;
-            }
-        }
-        i += 1;
+    let mut counts = Counts::default();
+    for i in 0..steps {
+        let step = next_read(dna, sizes, ns, reads, bases, cursor)?;
+        let from = counts.letters as usize;
+        let visited = visit_read(
+            reference,
+            dna,
+            step.read,
+            count,
+            write,
+            forward_table,
+            reverse_table,
+            pair_table,
+            letters,
+            from,
+            ends,
+            i,
+        );
+        counts = counts_added(counts, visited);
+        last = step.read;
+        cursor = step.cursor;
     }
-    Walked::At(cursor, last, counts)
+    Ok(Walked {
+        cursor,
+        last,
+        counts,
+    })
 }
 
 // The next read, and the cursor after it. Its only caller is `walk`, so that it is inlined there.
@@ -169,43 +165,48 @@ fn next_read(
     reads: usize,
     bases: u64,
     cursor: ReadCursor,
-) -> ReadStep
+) -> Result<ReadStep, BlockRefusal>
     requires { (SourceFits (source_of dna.now sizes.now ns.now reads bases))
         × (CursorFits dna.now cursor) × (cursor.read < reads) }
-    ensures { result ≡ step_answer (read_step
+    ensures { numbered_block result ≡ step_answer (read_step
         (source_of dna.now sizes.now ns.now reads bases)
         cursor) }
 {
     let size_cursor = cursor.sizes;
-    let LengthStep::Found(length, next_sizes) = next_length(sizes, size_cursor) else {
-        return ReadStep::Refused(LENGTHS_INVALID, 0);
+    let Some((length, sizes_after)) = next_length(sizes, size_cursor) else {
+        return Err(Refusal::LengthsInvalid.into());
     };
-    let size = size32(length);
-    let group = take_group(dna, ns, reads, cursor.read, cursor.at, cursor.group);
-    match group {
-        GroupStep::Refused(number) => ReadStep::Refused(number, wide64(cursor.read)),
-        GroupStep::Found(at, bytes) => {
-            let bits = bits_of(bytes, cursor.read);
-            let decoded = decode_record(dna, at, bits, size, cursor.position, bases);
-            match decoded {
-                Decoded::Refused(number) => ReadStep::Refused(number, wide64(cursor.read)),
-                Decoded::Found(record, layout) => ReadStep::Found(
-                    Read {
-                        length: size,
-                        record: record,
-                        layout: layout,
-                    },
-                    ReadCursor {
-                        at: layout.end,
-                        position: position_after(record, cursor.position),
-                        sizes: next_sizes,
-                        read: cursor.read + 1,
-                        group: bytes,
-                    },
-                ),
-            }
-        }
-    }
+    let size = length as usize;
+    let read = u64::from(cursor.read);
+    let group = match take_group(dna, ns, reads, cursor.read, cursor.at, cursor.group) {
+        Ok(group) => group,
+        Err(refusal) => return Err(BlockRefusal { refusal, read }),
+    };
+    let bits = bits_of(group.group, cursor.read);
+    let context = Context {
+        bits,
+        size,
+        previous: cursor.position,
+        bases,
+    };
+    let decoded = match decode_record(dna, group.at, context) {
+        Ok(decoded) => decoded,
+        Err(refusal) => return Err(BlockRefusal { refusal, read }),
+    };
+    Ok(ReadStep {
+        read: Read {
+            length: size,
+            record: decoded.record,
+            layout: decoded.layout,
+        },
+        cursor: ReadCursor {
+            at: decoded.layout.end,
+            position: position_after(decoded.record, cursor.position),
+            sizes: sizes_after,
+            read: cursor.read + 1,
+            group: group.group,
+        },
+    })
 }
 
 // The position after a record: its own, or the one before where it has none.
@@ -236,18 +237,6 @@ fn no_read() -> Read
             n_count: 0,
             end: 0,
         },
-    }
-}
-
-fn no_counts() -> Counts
-    ensures { result ≡ counts_of zero_counts }
-{
-    Counts {
-        reads: 0,
-        letters: 0,
-        entries: 0,
-        differences: 0,
-        top: 0,
     }
 }
 

@@ -141,8 +141,5 @@ fn counts_of(read: Read, differences: u64) -> Counts
 fn top_of(entries: u64) -> u64
     ensures { result ≡ top_of entries }
 {
-    if entries == MAX_ENTRIES as u64 {
-        return 1;
-    }
-    0
+    u64::from(entries == MAX_ENTRIES as u64)
 }

@@ -7,13 +7,15 @@ use mathlib.Core.Bool.{Bool, true, false, cond, ◌||◌}
 use mathlib.Core.List.{List, [], ◌∷◌}
 use lib.Dec.{ltb, eqb}
 use borrow.Author.Tests.{ne_eqb}
+use Rattle.std.specs.Prelude.{Result, Err}
 use Rattle.base.specs.Lists.{any, member, places_from}
 use Rattle.base.specs.Faults.{fault}
 use Rattle.base.specs.Answer.{Scan, found, refused, checked, and_then}
 use Rattle.base.proofs.Tests.{absurd_test}
 use Rattle.dna.specs.Varint16At.{varint16_at, words_for}
 use Rattle.dna.specs.RecordAt.{offsets_at}
-use Rattle.records.specs.declared.nlist.NPlace.TheVariants as places
+use Rattle.records.specs.declared.nlist.NPlace.{NPlace}
+use Rattle.records.proofs.NListLaws.{found_place, place_in}
 use Rattle.records.specs.Decoded.{place_from}
 use Rattle.record_letters.specs.Laid.{offsets_of, is_found}
 
@@ -48,19 +50,19 @@ module _ (section : List ℕ) (n size least place there after : ℕ) where
       ≡ there ∷ places_from there (offsets_of (offsets_at n size 1 there section after)))
 
   place_parts : (scan : Scan ℕ) → is_found (and_then scan offsets_after) ≡ true
-      → place_from place scan ≡ places.Found there after
+      → place_from place scan ≡ found_place there after
       → Left (and_then scan offsets_after) there after
   unfolding place_from and_then checked is_found
   place_parts (found offset next) h e =
-      let e₁ : place + offset ≡ there = cc in
-      let e₂ : next ≡ after = cc in
+      let e₁ : place + offset ≡ there = ap (λ (r : Result NPlace ℕ). (place_in r).place) e in
+      let e₂ : next ≡ after = ap (λ (r : Result NPlace ℕ). (place_in r).next) e in
       subst (λ (p : ℕ). Left (and_then (found offset next) offsets_after) p after) e₁
       (subst (λ (m : ℕ). Left (and_then (found offset next) offsets_after) (place + offset) m) e₂
       (offset-parts (ltb offset least) (offsets_at n size 1 (place + offset) section next) offset
       place h))
   place_parts (refused number) h e = absurd_test (sym h)
 
-  place_none : (scan : Scan ℕ) (number : ℕ) → place_from place scan ≡ places.Refused number
+  place_none : (scan : Scan ℕ) (number : ℕ) → place_from place scan ≡ Err number
       → places_from place (offsets_of (and_then scan offsets_after)) ≡ []
   unfolding place_from and_then offsets_of places_from
   place_none (found offset next) number e = let z : ◌≡◌ {A = ℕ} 0 1 = cc in absurd (omega arith)
@@ -100,7 +102,7 @@ module _ (section : List ℕ) (count size : ℕ) where
 
       pub places_refused : (number : ℕ)
           → place_from place (varint16_at (words_for size) size place section next)
-          ≡ places.Refused number
+          ≡ Err number
           → places_left place (offsets_left section count size k place next) ≡ []
       unfolding offsets_at
       places_refused number e =
@@ -112,7 +114,7 @@ module _ (section : List ℕ) (count size : ℕ) where
       pub places_turn : (there after : ℕ)
           → is_found (offsets_left section count size k place next) ≡ true
           → place_from place (varint16_at (words_for size) size place section next)
-          ≡ places.Found there after
+          ≡ found_place there after
           → (is_found (offsets_left section count size (k + 1) there after) ≡ true)
           × (places_left place (offsets_left section count size k place next)
           ≡ there ∷ places_left there (offsets_left section count size (k + 1) there after))
@@ -147,7 +149,7 @@ module _ (section : List ℕ) (count size : ℕ) where
     module _ (more : k < count) where
       pub left_refused : (number : ℕ)
           → place_from place (varint16_at (words_for size) size place section next)
-          ≡ places.Refused number
+          ≡ Err number
           → named_left letter place (offsets_left section count size k place next) ≡ false
       unfolding member any
       left_refused number e = ap (member letter) (places_refused k place next more number e)
@@ -155,7 +157,7 @@ module _ (section : List ℕ) (count size : ℕ) where
       pub left_turn : (there after : ℕ)
           → is_found (offsets_left section count size k place next) ≡ true
           → place_from place (varint16_at (words_for size) size place section next)
-          ≡ places.Found there after
+          ≡ found_place there after
           → (is_found (offsets_left section count size (k + 1) there after) ≡ true)
           × (named_left letter place (offsets_left section count size k place next)
           ≡ eqb there letter

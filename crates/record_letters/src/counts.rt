@@ -24,9 +24,8 @@ ghost use Rattle.record_letters.specs.Laid.{
 };
 
 use dna::{Placement, Record, Strand};
-use integers::{size8, size64};
 use records::Layout;
-use records::nlist::{NPlace, read_n_place};
+use records::nlist::read_n_place;
 use reference::{strand_base, stretch_index};
 
 // The differences of a record of a read of `size` letters.
@@ -46,13 +45,13 @@ pub fn differences(
         Record::Global(placement) => {
             let strand = placement.strand;
             let forward = is_forward(strand);
-            let leftmost = size64(placement.position);
+            let leftmost = placement.position as usize;
             aligned_differences(section, reference, forward, leftmost, layout, 0, size, size)
         }
         Record::Local(placement) => {
             let strand = placement.strand;
-            let left = size8(placement.left);
-            let aligned = size - (left + size8(placement.right));
+            let left = usize::from(placement.left);
+            let aligned = size - (left + usize::from(placement.right));
             let leftmost = local_leftmost(placement, aligned);
             aligned_differences(
                 section,
@@ -91,10 +90,9 @@ fn aligned_differences(
 {
     let mut sum: u64 = 0;
     let mut place: usize = 0;
-    let mut k: usize = 0;
-    while k < layout.entry_count {
+    for k in 0..layout.entry_count {
         let entry = section[layout.entries + k];
-        place += size8(entry / 4);
+        place += usize::from(entry / 4);
         let index = stretch_index(forward, leftmost, aligned, place);
         sum += entry_difference(
             section,
@@ -106,7 +104,6 @@ fn aligned_differences(
             size,
             left + place,
         );
-        k += 1;
     }
     sum
 }
@@ -147,17 +144,15 @@ fn under_n(section: &[u8], first: usize, count: usize, size: usize, letter: usiz
 {
     let mut next = first;
     let mut place: usize = 0;
-    let mut k: usize = 0;
-    while k < count {
-        let NPlace::Found(there, after) = read_n_place(section, next, place, size) else {
+    for _ in 0..count {
+        let Ok(there) = read_n_place(section, next, place, size) else {
             return false;
         };
-        if there == letter {
+        if there.place == letter {
             return true;
         }
-        place = there;
-        next = after;
-        k += 1;
+        place = there.place;
+        next = there.next;
     }
     false
 }
@@ -170,7 +165,7 @@ pub fn local_leftmost(placement: Placement, aligned: usize) -> usize
     ensures { result ≡ local_leftmost placement aligned }
 {
     let strand = placement.strand;
-    let position = size64(placement.position);
+    let position = placement.position as usize;
     if is_forward(strand) {
         return position;
     }

@@ -39,11 +39,13 @@ ghost use Rattle.record_letters.specs.Printed.{
 };
 
 use crate::counts::{is_forward, local_leftmost};
-use dna::{Placement, Record};
-use integers::{put_u16, size8, size64, wide16};
+use crate::tables::Tables;
+use dna::{Placement, Record, Strand};
+use integers::put_u16;
 use records::Layout;
-use records::nlist::{NPlace, read_n_place};
+use records::nlist::read_n_place;
 use reference::{letter_of_code, put_stretch, put_stretch_forward};
+use std::array;
 
 // Writes the letters of a record of a read of `size` letters from index `at` on, and gives its
 // differences.
@@ -71,18 +73,12 @@ pub fn put_read(
         × (result ≡ (record_counts reference.now (context_in 0 size «record»)
         (stored_in section.now size «record» layout)).differences) }
 {
-    put_plain(
-        section,
-        reference,
-        record,
-        layout,
-        size,
-        forward_table,
-        reverse_table,
-        pair_table,
-        out,
-        at,
-    );
+    let tables = Tables {
+        forward: forward_table,
+        reverse: reverse_table,
+        pairs: pair_table,
+    };
+    put_plain(section, reference, record, layout, size, tables, out, at);
     put_n_list(section, layout.n_list, layout.n_count, size, out, at);
     put_entries(
         section,
@@ -100,54 +96,38 @@ fn put_plain(
     record: Record,
     layout: Layout,
     size: usize,
-    forward_table: &[u64; 256],
-    reverse_table: &[u64; 256],
-    pair_table: &[u16; 256],
+    tables: Tables,
     out: &mut [u8],
     at: usize,
 )
     requires { (Printable section.now reference.now size «record» layout)
-        × (at + size ≤ length out.old)
-        × (forward_table.now ≡ word_table true)
-        × (reverse_table.now ≡ word_table false)
-        × (pair_table.now ≡ pair_words) }
+        × (at + size ≤ length out.old) }
     ensures { out.new
         ≡ pasted out.old at
         (plain_letters reference.now (context_in 0 size «record»)
         (fields_in section.now size «record» layout)) }
 {
     match record {
-        Record::Perfect(placement) => put_placed(
-            reference,
-            placement,
-            size,
-            forward_table,
-            reverse_table,
-            out,
-            at,
-        ),
-        Record::Global(placement) => put_placed(
-            reference,
-            placement,
-            size,
-            forward_table,
-            reverse_table,
-            out,
-            at,
-        ),
+        Record::Perfect(placement) => {
+            let leftmost = placement.position as usize;
+            put_aligned(reference, placement.strand, leftmost, size, tables, out, at)
+        }
+        Record::Global(placement) => {
+            let leftmost = placement.position as usize;
+            put_aligned(reference, placement.strand, leftmost, size, tables, out, at)
+        }
         Record::Local(placement) => put_local(
             section,
             reference,
             placement,
             layout.packed,
             size,
-            forward_table,
-            reverse_table,
+            tables,
             out,
             at,
         ),
-        Record::Raw => put_packed(section, layout.packed, 0, size, forward_table, out, at),
-        Record::Raw4 => put_codes4(section, layout.packed, size, pair_table, out, at),
+        Record::Raw => put_packed(section, layout.packed, 0, size, tables, out, at),
+        Record::Raw4 => put_codes4(section, layout.packed, size, tables, out, at),
     }
 }
 
@@ -158,8 +138,7 @@ fn put_local(
     placement: Placement,
     packed: usize,
     size: usize,
-    forward_table: &[u64; 256],
-    reverse_table: &[u64; 256],
+    tables: Tables,
     out: &mut [u8],
     at: usize,
 )
@@ -169,23 +148,22 @@ fn put_local(
         (local_leftmost placement (size - (placement.left + placement.right)))
         (size - (placement.left + placement.right)))
         × (packed + packed_length 4 (placement.left + placement.right) ≤ length section.now)
-        × (at + size ≤ length out.old)
-        × (forward_table.now ≡ word_table true)
-        × (reverse_table.now ≡ word_table false) }
+        × (at + size ≤ length out.old) }
     ensures { out.new
         ≡ pasted out.old at
         (local_letters section.now reference.now placement packed size) }
 {
-    let left = size8(placement.left);
-    let right = size8(placement.right);
+    let left = usize::from(placement.left);
+    let right = usize::from(placement.right);
     let aligned = size - (left + right);
-    put_packed(section, packed, 0, left, forward_table, out, at);
-    put_local_stretch(
+    let leftmost = local_leftmost(placement, aligned);
+    put_packed(section, packed, 0, left, tables, out, at);
+    put_aligned(
         reference,
-        placement,
+        placement.strand,
+        leftmost,
         aligned,
-        forward_table,
-        reverse_table,
+        tables,
         out,
         at + left,
     );
@@ -194,76 +172,35 @@ fn put_local(
         packed,
         left,
         right,
-        forward_table,
+        tables,
         out,
         at + left + aligned,
     );
 }
 
-// Writes the letters of the `aligned` bases of the reference under a local record.
-fn put_local_stretch(
+// Writes the letters of the `aligned` bases of the reference from index `leftmost` on.
+fn put_aligned(
     reference: &[u8],
-    placement: Placement,
+    strand: Strand,
+    leftmost: usize,
     aligned: usize,
-    forward_table: &[u64; 256],
-    reverse_table: &[u64; 256],
+    tables: Tables,
     out: &mut [u8],
     at: usize,
 )
-    requires { (LocalExact placement aligned)
-        × (StretchFits reference.now (local_leftmost placement aligned) aligned)
-        × (at + aligned ≤ length out.old)
-        × (forward_table.now ≡ word_table true)
-        × (reverse_table.now ≡ word_table false) }
+    requires { (StretchFits reference.now leftmost aligned) × (at + aligned ≤ length out.old) }
     ensures { out.new
         ≡ pasted out.old at
-        (stretch_letters reference.now (is_forward placement.strand)
-        (local_leftmost placement aligned) aligned) }
+        (stretch_letters reference.now (is_forward strand) leftmost aligned) }
 {
-    let strand = placement.strand;
     let forward = is_forward(strand);
-    let leftmost = local_leftmost(placement, aligned);
     put_stretch(
         reference,
         forward,
         leftmost,
         aligned,
-        forward_table,
-        reverse_table,
-        out,
-        at,
-    );
-}
-
-// Writes the letters of the `aligned` bases of the reference from a placement's position on.
-fn put_placed(
-    reference: &[u8],
-    placement: Placement,
-    aligned: usize,
-    forward_table: &[u64; 256],
-    reverse_table: &[u64; 256],
-    out: &mut [u8],
-    at: usize,
-)
-    requires { (StretchFits reference.now placement.position aligned)
-        × (at + aligned ≤ length out.old)
-        × (forward_table.now ≡ word_table true)
-        × (reverse_table.now ≡ word_table false) }
-    ensures { out.new
-        ≡ pasted out.old at
-        (stretch_letters reference.now (is_forward placement.strand)
-        placement.position aligned) }
-{
-    let strand = placement.strand;
-    let forward = is_forward(strand);
-    let leftmost = size64(placement.position);
-    put_stretch(
-        reference,
-        forward,
-        leftmost,
-        aligned,
-        forward_table,
-        reverse_table,
+        tables.forward,
+        tables.reverse,
         out,
         at,
     );
@@ -276,66 +213,51 @@ fn put_packed(
     packed: usize,
     first: usize,
     count: usize,
-    forward_table: &[u64; 256],
+    tables: Tables,
     out: &mut [u8],
     at: usize,
 )
     requires { (packed + packed_length 4 (first + count) ≤ length section.now)
         × (first + count ≤ max_reference_bases)
-        × (at + count ≤ length out.old)
-        × (forward_table.now ≡ word_table true) }
+        × (at + count ≤ length out.old) }
     ensures { out.new
         ≡ pasted out.old at
         (map letter_of_code (symbols_at 4 4 section.now packed first count)) }
 {
-    put_stretch_forward(&section[packed..], first, count, forward_table, out, at);
+    put_stretch_forward(&section[packed..], first, count, tables.forward, out, at);
 }
 
 // Writes the letters of so many codes of four bits that stand at `packed`, two a byte.
-fn put_codes4(
-    section: &[u8],
-    packed: usize,
-    size: usize,
-    pair_table: &[u16; 256],
-    out: &mut [u8],
-    at: usize,
-)
+fn put_codes4(section: &[u8], packed: usize, size: usize, tables: Tables, out: &mut [u8], at: usize)
     requires { (packed + packed_length 2 size ≤ length section.now)
         × (size ≤ max_read_length)
         × (Below 5 (symbols_at 16 2 section.now packed 0 size))
-        × (at + size ≤ length out.old)
-        × (pair_table.now ≡ pair_words) }
+        × (at + size ≤ length out.old) }
     ensures { out.new
         ≡ pasted out.old at
         (map letter_of_code (symbols_at 16 2 section.now packed 0 size)) }
 {
     let whole = size / 2;
-    put_pairs(section, packed, whole, pair_table, out, at);
+    put_pairs(section, packed, whole, tables, out, at);
     if size % 2 != 0 {
         out[at + 2 * whole] = letter_of_code(section[packed + whole] / 16);
     }
 }
 
 // Writes the letters of so many whole bytes of two codes.
-fn put_pairs(
-    section: &[u8],
-    packed: usize,
-    bytes: usize,
-    pair_table: &[u16; 256],
-    out: &mut [u8],
-    at: usize,
-)
+fn put_pairs(section: &[u8], packed: usize, bytes: usize, tables: Tables, out: &mut [u8], at: usize)
     requires { (packed + bytes ≤ length section.now)
-        × (at + 2 * bytes ≤ length out.old)
-        × (pair_table.now ≡ pair_words) }
+        × (at + 2 * bytes ≤ length out.old) }
     ensures { out.new
         ≡ pasted out.old at
         (map letter_of_code (symbols_at 16 2 section.now packed 0 (2 * bytes))) }
 {
-    let mut k: usize = 0;
-    while k < bytes {
-        put_u16(out, at + 2 * k, pair_table[size8(section[packed + k])]);
-        k += 1;
+    for k in 0..bytes {
+        put_u16(
+            out,
+            at + 2 * k,
+            tables.pairs[usize::from(section[packed + k])],
+        );
     }
 }
 
@@ -343,27 +265,14 @@ fn put_pairs(
 pub fn pair_table() -> [u16; 256]
     ensures { result ≡ pair_words }
 {
-    let mut table = [0u16; 256];
-    fill_pairs(&mut table);
-    table
+    array::from_fn(|byte| pair_word(byte as u8))
 }
 
-// Fills a table of 256 pairs.
-fn fill_pairs(table: &mut [u16])
-    requires { length table.old ≡ 256 }
-    ensures { table.new ≡ pair_words }
-{
-    let mut byte: usize = 0;
-    while byte < 256 {
-        table[byte] = pair_word(byte as u8);
-        byte += 1;
-    }
-}
-
+// The letters of both codes of a byte.
 fn pair_word(byte: u8) -> u16
     ensures { result ≡ pair_word byte }
 {
-    wide16(letter_or_0(byte / 16)) + 256 * wide16(letter_or_0(byte % 16))
+    u16::from_le_bytes([letter_or_0(byte / 16), letter_or_0(byte % 16)])
 }
 
 // The letter of a code; 0 above 4.
@@ -387,15 +296,13 @@ fn put_n_list(section: &[u8], first: usize, count: usize, size: usize, out: &mut
 {
     let mut next = first;
     let mut place: usize = 0;
-    let mut k: usize = 0;
-    while k < count {
-        let NPlace::Found(there, after) = read_n_place(section, next, place, size) else {
+    for _ in 0..count {
+        let Ok(there) = read_n_place(section, next, place, size) else {
             return;
         };
-        out[at + there] = 78;
-        place = there;
-        next = after;
-        k += 1;
+        out[at + there.place] = 78;
+        place = there.place;
+        next = there.next;
     }
 }
 
@@ -415,12 +322,10 @@ fn put_entries(section: &[u8], entries: usize, count: usize, out: &mut [u8], at:
 {
     let mut changed: u64 = 0;
     let mut place = at;
-    let mut k: usize = 0;
-    while k < count {
+    for k in 0..count {
         let entry = section[entries + k];
-        place += size8(entry / 4);
+        place += usize::from(entry / 4);
         changed += put_entry(entry % 4, out, place);
-        k += 1;
     }
     changed
 }
@@ -444,14 +349,12 @@ fn put_entry(code: u8, out: &mut [u8], place: usize) -> u64
 }
 
 // The letters clipped before the aligned part.
+#[tactic(auto, unfolding(crate::specs::Printed::left_in))]
 fn left_of(record: Record) -> usize
     ensures { result ≡ left_in «record» }
 {
     match record {
-        Record::Perfect(_) => 0,
-        Record::Global(_) => 0,
-        Record::Local(placement) => size8(placement.left),
-        Record::Raw => 0,
-        Record::Raw4 => 0,
+        Record::Local(placement) => usize::from(placement.left),
+        Record::Perfect(_) | Record::Global(_) | Record::Raw | Record::Raw4 => 0,
     }
 }

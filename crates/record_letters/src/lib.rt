@@ -5,3 +5,4 @@
 
 pub mod counts;
 pub mod letters;
+pub mod tables;

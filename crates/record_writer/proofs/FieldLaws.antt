@@ -3,16 +3,17 @@ use mathlib.Core.Path.{◌≡◌, refl, sym, ap, ap₂, ◌∙◌, subst}
 use Prim.Native.Nat.{ℕ, ◌+◌, ◌*◌, ◌≤◌, ◌<◌}
 use native.Mathlib.Omega.{arith}
 use mathlib.Core.List.{List, ◌∷◌, ◌++◌, map, append_assoc}
-use lib.ListN.{length, take, length-append, length-map}
-use lib.Seq.{length-take-le}
-use Rattle.base.specs.Lists.{All}
+use lib.ListN.{length, get_or, take, length-append, length-map}
+use lib.Seq.{length-take-le, take-length, get_or-take}
+use Rattle.base.specs.Lists.{All, build}
 use Rattle.base.specs.Packed.{packed_length}
 use Rattle.base.specs.Place.{At}
 use Rattle.base.proofs.AtLaws.{at_take, at_same}
+use Rattle.base.proofs.ListLaws.{build_cong}
 use Rattle.base.proofs.PackedLaws.{length-pack}
 use Rattle.dna.specs.Record.{Entry, EntryFits, entry_byte, packed_bytes, flag_byte_of, fields_bytes}
 use Rattle.dna.specs.Record.{field_width}
-use Rattle.dna.specs.RecordAt.{entries_at}
+use Rattle.dna.specs.RecordAt.{entry_of, entries_at}
 use Rattle.dna.proofs.FieldLaws.{length-entries, length-entries_at, entries_at-entries}
 use Rattle.dna.proofs.FieldLaws.{entries-entries_at}
 use Rattle.dna.specs.declared.Placement.{Placement}
@@ -23,7 +24,7 @@ use Rattle.letter_packing.proofs.ReadLaws.{length_end_codes}
 use Rattle.letter_packing.proofs.PieceLaws.{packed-padded}
 use Rattle.record_writer.specs.Written.{fields_for, incremental_for, record_written}
 use Rattle.record_writer.specs.Written.{fields_written}
-use Rattle.record_writer.specs.Parts.{position_bytes, aligned_bytes, local_bytes, raw_bytes}
+use Rattle.record_writer.specs.Parts.{entries_of, position_bytes, aligned_bytes, local_bytes, raw_bytes}
 use Rattle.record_writer.specs.Parts.{raw4_bytes}
 
 -- ---- Entries
@@ -46,6 +47,22 @@ entries-read entries list fit room written =
     entries_at-entries entries fit
     (subst (λ (part : List ℕ). At list 0 part) written (at_take list (length entries) room))
 
+-- The entries that stand first in a list are those of its first bytes.
+pub entries_of-take : (list : List ℕ) (n : ℕ) → n ≤ length list
+    → entries_of (take n list) ≡ entries_at list 0 n
+unfolding entries_at
+entries_of-take list n fits =
+    ap (λ (m : ℕ). build m (λ k. entry_of (get_or (take n list) (0 + k) 0)))
+    (length-take-le n list fits)
+    ∙ build_cong n _ _
+    (λ k h.
+    let inside : 0 + k < n = omega arith in
+    ap entry_of (get_or-take n list (0 + k) 0 inside))
+
+-- The bytes of the entries of some bytes are these.
+entries-bytes : (bytes : List ℕ) → map entry_byte (entries_of bytes) ≡ bytes
+entries-bytes bytes = entries-taken bytes (length bytes) (omega arith) ∙ take-length bytes
+
 -- ---- Bytes
 
 pub perfect-fields : (previous : ℕ) (placement : Placement) (entries : List Entry) (codes : List ℕ)
@@ -54,23 +71,19 @@ pub perfect-fields : (previous : ℕ) (placement : Placement) (entries : List En
 unfolding fields_written record_written fields_for incremental_for fields_bytes field_width position_bytes
 perfect-fields previous placement entries codes = refl
 
-module _ (previous : ℕ) (placement : Placement) (list : List ℕ) (n : ℕ) (fits : n ≤ length list)
-    (codes : List ℕ) where
-  abbrev entries : List Entry
-  entries = entries_at list 0 n
-
-  pub global_fields : fields_written previous (kinds.Global placement) entries codes
-      ≡ aligned_bytes 4 previous placement.position list n
+module _ (previous : ℕ) (placement : Placement) (entries codes : List ℕ) where
+  pub global_fields : fields_written previous (kinds.Global placement) (entries_of entries) codes
+      ≡ aligned_bytes 4 previous placement.position entries
   unfolding fields_written record_written fields_for incremental_for fields_bytes flag_byte_of field_width
       position_bytes aligned_bytes
   global_fields =
       ap₂
       (λ (count : ℕ) (bytes : List ℕ).
       (count * 8 + 4) ∷ (position_bytes previous placement.position ++ bytes))
-      (length-entries_at list 0 n) (entries-taken list n fits)
+      (length-entries_at entries 0 (length entries)) (entries-bytes entries)
 
-  pub local_fields : fields_written previous (kinds.Local placement) entries codes
-      ≡ local_bytes placement previous list n codes
+  pub local_fields : fields_written previous (kinds.Local placement) (entries_of entries) codes
+      ≡ local_bytes placement previous entries codes
   unfolding fields_written record_written fields_for incremental_for fields_bytes flag_byte_of field_width
       position_bytes aligned_bytes local_bytes
   local_fields =
@@ -78,13 +91,14 @@ module _ (previous : ℕ) (placement : Placement) (list : List ℕ) (n : ℕ) (f
       placement.left
       ∷ placement.right
       ∷ packed_bytes 4 4 (padded 4 (end_codes placement.left placement.right codes)) in
-      let count : length entries * 8 ≡ n * 8 + 0 = omega (arith, length-entries_at list 0 n) in
+      let count : length (entries_of entries) * 8 ≡ length entries * 8 + 0 =
+      omega (arith, length-entries_at entries 0 (length entries)) in
       ap₂
       (λ (flag : ℕ) (bytes : List ℕ).
       flag ∷ (position_bytes previous placement.position ++ (bytes ++ ends)))
-      count (entries-taken list n fits)
-      ∙ ap (λ (bytes : List ℕ). (n * 8 + 0) ∷ bytes)
-      (sym (append_assoc (position_bytes previous placement.position) (take n list) ends))
+      count (entries-bytes entries)
+      ∙ ap (λ (bytes : List ℕ). (length entries * 8 + 0) ∷ bytes)
+      (sym (append_assoc (position_bytes previous placement.position) entries ends))
 
 pub raw-fields : (previous : ℕ) (entries : List Entry) (codes : List ℕ)
     → fields_written previous kinds.Raw entries codes ≡ raw_bytes codes
@@ -103,16 +117,12 @@ length-padded : (base per : ℕ) (codes : List ℕ) → 0 < per
 length-padded base per codes some =
     ap length (packed-padded base per codes some) ∙ length-pack base per codes
 
-pub length_aligned : (bit previous position : ℕ) (list : List ℕ) (n : ℕ) → n ≤ length list
-    → length (aligned_bytes bit previous position list n)
-    ≡ 1 + length (position_bytes previous position) + n
+pub length_aligned : (bit previous position : ℕ) (entries : List ℕ)
+    → length (aligned_bytes bit previous position entries)
+    ≡ 1 + length (position_bytes previous position) + length entries
 unfolding aligned_bytes
-length_aligned bit previous position list n fits =
-    omega (
-      arith,
-      length-append (position_bytes previous position) (take n list),
-      length-take-le n list fits,
-    )
+length_aligned bit previous position entries =
+    omega (arith, length-append (position_bytes previous position) entries)
 
 pub length_ends : (left right : ℕ) (codes : List ℕ) → left + right ≤ length codes
     → length (packed_bytes 4 4 (padded 4 (end_codes left right codes))) ≡ packed_length 4
@@ -121,14 +131,14 @@ length_ends left right codes fits =
     length-padded 4 4 (end_codes left right codes) (omega arith)
     ∙ ap (packed_length 4) (length_end_codes left right codes fits)
 
-pub length-local : (placement : Placement) (previous : ℕ) (list : List ℕ) (n : ℕ) (codes : List ℕ)
+pub length-local : (placement : Placement) (previous : ℕ) (entries codes : List ℕ)
     → placement.left + placement.right ≤ length codes
-    → length (local_bytes placement previous list n codes)
-    ≡ length (aligned_bytes 0 previous placement.position list n) + 2
+    → length (local_bytes placement previous entries codes)
+    ≡ length (aligned_bytes 0 previous placement.position entries) + 2
     + packed_length 4 (placement.left + placement.right)
 unfolding local_bytes
-length-local placement previous list n codes fits =
-    length-append (aligned_bytes 0 previous placement.position list n) _
+length-local placement previous entries codes fits =
+    length-append (aligned_bytes 0 previous placement.position entries) _
     ∙ omega (arith, length_ends placement.left placement.right codes fits)
 
 pub length-raw : (codes : List ℕ) → length (raw_bytes codes) ≡ 1 + packed_length 4 (length codes)

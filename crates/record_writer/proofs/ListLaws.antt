@@ -114,11 +114,11 @@ module _ (previous : ℕ) (entries : List Entry) (codes : List ℕ) (count : ℕ
     )
 
 -- An N list that is stored is one that can be.
-pub stored-fits : {record' : Record} {entries : ℕ} {letters : List ℕ} {from to count : ℕ}
-    → Writable record' entries letters from to count → list_stored record' count ≡ true
-    → NCounted letters from to count
+pub stored-fits : {record' : Record} {entries : ℕ} {read : List ℕ} {count : ℕ}
+    → Writable record' entries read count → list_stored record' count ≡ true
+    → NCounted read count
 stored-fits can stored =
-    record { lies = can.lies; counted = can.counted; few = can.listed stored }
+    record { fits = can.fits; counted = can.counted; few = can.listed stored }
 
 -- The bytes are the same for every size of the reference.
 pub bytes-any : (bases previous : ℕ) (record' : Record) (entries : List Entry) (codes : List ℕ)

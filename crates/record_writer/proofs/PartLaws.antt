@@ -1,18 +1,18 @@
 -- A record that is written part by part: flag byte, position, entries, ends. Assumes nothing.
 use mathlib.Core.Path.{◌≡◌, refl, sym, ap, ap₂, ◌∙◌}
-use Prim.Native.Nat.{ℕ, ◌+◌, ◌-◌, ◌*◌, ◌≤◌, ◌<◌}
+use Prim.Native.Nat.{ℕ, ◌+◌, ◌*◌, ◌≤◌, ◌<◌}
 use native.Mathlib.Nat.{add-zero}
 use native.Mathlib.Omega.{arith}
 use mathlib.Core.List.{List, [], ◌∷◌}
-use lib.ListN.{length, take, set, length-set}
+use lib.ListN.{length, set, length-set}
 use Rattle.base.specs.Packed.{packed_length}
 use Rattle.base.specs.Paste.{pasted}
 use Rattle.base.proofs.PasteLaws.{length_pasted, set_pasted, pasted_then}
 use Rattle.dna.specs.Record.{packed_bytes}
 use Rattle.dna.specs.declared.Placement.{Placement}
 use Rattle.format.specs.RuleRecord.{padded}
-use Rattle.letter_packing.specs.Read.{ReadLies, codes_in, end_codes}
-use Rattle.letter_packing.proofs.ReadLaws.{length_codes_in, end_codes-whole}
+use Rattle.letter_packing.specs.Read.{codes_of, end_codes}
+use Rattle.letter_packing.proofs.ReadLaws.{length_codes_of, end_codes-whole}
 use Rattle.record_writer.specs.Parts.{position_bytes, aligned_bytes, local_bytes, raw_bytes}
 use Rattle.record_writer.specs.Parts.{raw4_bytes}
 use Rattle.record_writer.proofs.FieldLaws.{length_aligned, length-local, length-raw}
@@ -27,47 +27,47 @@ stored_then out new at byte next rest room there written =
 
 -- ---- Flag byte, position and entries
 
-module _ (bit previous position : ℕ) (list : List ℕ) (n : ℕ) (out : List ℕ) (at : ℕ)
-    (room : at + 1 + length (position_bytes previous position) + n ≤ length out) where
+module _ (bit previous position : ℕ) (entries out : List ℕ) (at : ℕ)
+    (room : at + 1 + length (position_bytes previous position) + length entries ≤ length out) where
   abbrev place : List ℕ
   place = position_bytes previous position
 
   pub aligned_written : (two three : List ℕ) (next : ℕ)
-      → two ≡ pasted (set out at (n * 8 + bit)) (at + 1) place → next ≡ at + 1 + length place
-      → three ≡ pasted two next (take n list)
-      → three ≡ pasted out at (aligned_bytes bit previous position list n)
+      → two ≡ pasted (set out at (length entries * 8 + bit)) (at + 1) place → next ≡ at + 1 + length place
+      → three ≡ pasted two next entries
+      → three ≡ pasted out at (aligned_bytes bit previous position entries)
   unfolding aligned_bytes
   aligned_written two three next e₁ there e₂ =
-      stored_then out three at (n * 8 + bit) (at + 1) _ (omega arith) refl
-      (pasted_then (set out at (n * 8 + bit)) two three (at + 1) next place (take n list)
+      stored_then out three at (length entries * 8 + bit) (at + 1) _ (omega arith) refl
+      (pasted_then (set out at (length entries * 8 + bit)) two three (at + 1) next place entries
       (simp length-set (omega arith)) there e₁ e₂)
 
 -- ---- The ends after them
 
-module _ (placement : Placement) (previous : ℕ) (list : List ℕ) (n : ℕ) (fits : n ≤ length list)
-    (codes out : List ℕ) (at : ℕ) (clips : placement.left + placement.right ≤ length codes)
-    (room : at + length (local_bytes placement previous list n codes) ≤ length out) where
+module _ (placement : Placement) (previous : ℕ) (entries codes out : List ℕ) (at : ℕ)
+    (clips : placement.left + placement.right ≤ length codes)
+    (room : at + length (local_bytes placement previous entries codes) ≤ length out) where
   abbrev front : List ℕ
-  front = aligned_bytes 0 previous placement.position list n
+  front = aligned_bytes 0 previous placement.position entries
 
-  size_front : length front ≡ 1 + length (position_bytes previous placement.position) + n
-  size_front = length_aligned 0 previous placement.position list n fits
+  size_front : length front ≡ 1 + length (position_bytes previous placement.position) + length entries
+  size_front = length_aligned 0 previous placement.position entries
 
   pub local_room :
-      at + 1 + length (position_bytes previous placement.position) + n + 2
+      at + 1 + length (position_bytes previous placement.position) + length entries + 2
       + packed_length 4 (placement.left + placement.right)
       ≤ length out
-  local_room = omega (arith, length-local placement previous list n codes clips, size_front)
+  local_room = omega (arith, length-local placement previous entries codes clips, size_front)
 
   pub local_written : (one new : List ℕ) (next left right last : ℕ) → one ≡ pasted out at front
-      → next ≡ at + 1 + length (position_bytes previous placement.position) + n
+      → next ≡ at + 1 + length (position_bytes previous placement.position) + length entries
       → left ≡ placement.left → right ≡ placement.right
       → new
       ≡ pasted (set (set one next placement.left) (next + 1) placement.right) (next + 2)
       (packed_bytes 4 4 (padded 4 (end_codes left right codes)))
       → last ≡ next + 2 + packed_length 4 (left + right)
-      → (new ≡ pasted out at (local_bytes placement previous list n codes))
-      × (last ≡ at + length (local_bytes placement previous list n codes))
+      → (new ≡ pasted out at (local_bytes placement previous entries codes))
+      × (last ≡ at + length (local_bytes placement previous entries codes))
   unfolding local_bytes
   local_written one new next left right last e₁ there is₁ is₂ e₂ after =
       let same : length one ≡ length out =
@@ -88,34 +88,34 @@ module _ (placement : Placement) (previous : ℕ) (list : List ℕ) (n : ℕ) (f
             (next + 2)
             ends (omega (arith, local_room)) (omega arith)
             (e₂ ∙ ap (pasted _ (next + 2)) packed))),
-        omega (arith, length-local placement previous list n codes clips, size_front),
+        omega (arith, length-local placement previous entries codes clips, size_front),
       )
 
 -- ---- Raw letters
 
-module _ (letters : List ℕ) (from to : ℕ) (lies : ReadLies letters from to) (out : List ℕ) (at : ℕ)
+module _ (read out : List ℕ) (at : ℕ)
   where
     abbrev codes : List ℕ
-    codes = codes_in letters from to
+    codes = codes_of read
 
-    size : length codes ≡ to - from
-    size = length_codes_in letters from to lies.ordered lies.inside
+    size : length codes ≡ length read
+    size = length_codes_of read
 
     pub raw_room : at + length (raw_bytes codes) ≤ length out
-        → at + 1 + packed_length 4 (to - from + 0) ≤ length out
+        → at + 1 + packed_length 4 (length read + 0) ≤ length out
     raw_room room =
         omega (
           arith,
           length-raw codes,
-          ap (packed_length 4) (add-zero (to - from)),
+          ap (packed_length 4) (add-zero (length read)),
           ap (packed_length 4) size,
         )
 
     -- All letters are those of a left end that is the whole read.
     pub raw_written : (new : List ℕ) (last : ℕ) → at + length (raw_bytes codes) ≤ length out
         → new
-        ≡ pasted (set out at 2) (at + 1) (packed_bytes 4 4 (padded 4 (end_codes (to - from) 0 codes)))
-        → last ≡ at + 1 + packed_length 4 (to - from + 0)
+        ≡ pasted (set out at 2) (at + 1) (packed_bytes 4 4 (padded 4 (end_codes (length read) 0 codes)))
+        → last ≡ at + 1 + packed_length 4 (length read + 0)
         → (new ≡ pasted out at (raw_bytes codes)) × (last ≡ at + length (raw_bytes codes))
     unfolding raw_bytes
     raw_written new last room written after = (
@@ -125,18 +125,18 @@ module _ (letters : List ℕ) (from to : ℕ) (lies : ReadLies letters from to) 
       omega (
         arith,
         length-raw codes,
-        ap (packed_length 4) (add-zero (to - from)),
+        ap (packed_length 4) (add-zero (length read)),
         ap (packed_length 4) size,
       ),
     )
 
     pub raw4_room : at + length (raw4_bytes codes) ≤ length out
-        → at + 1 + packed_length 2 (to - from) ≤ length out
+        → at + 1 + packed_length 2 (length read) ≤ length out
     raw4_room room = omega (arith, length-raw4 codes, ap (packed_length 2) size)
 
     pub raw4_written : (new : List ℕ) (last : ℕ) → at + length (raw4_bytes codes) ≤ length out
         → new ≡ pasted (set out at 1) (at + 1) (packed_bytes 16 2 (padded 2 codes))
-        → last ≡ at + 1 + packed_length 2 (to - from)
+        → last ≡ at + 1 + packed_length 2 (length read)
         → (new ≡ pasted out at (raw4_bytes codes)) × (last ≡ at + length (raw4_bytes codes))
     unfolding raw4_bytes
     raw4_written new last room written after = (

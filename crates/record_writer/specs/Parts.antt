@@ -1,27 +1,31 @@
 -- The parts of a record as they are written, one after the other (01, Records). That they make the
 -- record's bytes is proved (proofs/FieldLaws.antt); nothing here is part of the format.
-use Rattle.std.specs.Prelude.{ℕ, ◌+◌, ◌*◌, cond, List, ◌∷◌, ◌++◌, map, take}
+use Rattle.std.specs.Prelude.{ℕ, ◌+◌, ◌*◌, cond, List, ◌∷◌, ◌++◌, map, length}
 use Rattle.base.specs.Numbers.{le_bytes}
-use Rattle.dna.specs.Record.{packed_bytes}
+use Rattle.dna.specs.Record.{Entry, packed_bytes}
+use Rattle.dna.specs.RecordAt.{entries_at}
 use Rattle.dna.specs.declared.Placement.{Placement}
 use Rattle.format.specs.RuleRecord.{padded, without_n, step_fits, field_for}
 use Rattle.letter_packing.specs.Read.{end_codes}
+
+-- The entries of some bytes, a byte each.
+abbrev pub entries_of : (bytes : List ℕ) → List Entry
+entries_of bytes = entries_at bytes 0 (length bytes)
 
 -- The bytes of a position: 2 of a step from the position before, or 4 of its own.
 unfoldable pub position_bytes : (previous position : ℕ) → List ℕ
 position_bytes previous position =
     le_bytes (cond (step_fits previous position) 2 4) (field_for previous position)
 
--- A flag byte with the bit of a kind, the position, and the entries, the first bytes of a list.
-unfoldable pub aligned_bytes : (bit previous position : ℕ) (list : List ℕ) (entries : ℕ) → List ℕ
-aligned_bytes bit previous position list entries =
-    (entries * 8 + bit) ∷ (position_bytes previous position ++ take entries list)
+-- A flag byte with the bit of a kind, the position, and the entries, a byte each.
+unfoldable pub aligned_bytes : (bit previous position : ℕ) (entries : List ℕ) → List ℕ
+aligned_bytes bit previous position entries =
+    (length entries * 8 + bit) ∷ (position_bytes previous position ++ entries)
 
 -- The bytes of a local record: after the entries its ends.
-unfoldable pub local_bytes : (placement : Placement) (previous : ℕ) (list : List ℕ) (entries : ℕ)
-    (codes : List ℕ) → List ℕ
-local_bytes placement previous list entries codes =
-    aligned_bytes 0 previous placement.position list entries
+unfoldable pub local_bytes : (placement : Placement) (previous : ℕ) (entries codes : List ℕ) → List ℕ
+local_bytes placement previous entries codes =
+    aligned_bytes 0 previous placement.position entries
     ++ (placement.left
     ∷ placement.right
     ∷ packed_bytes 4 4 (padded 4 (end_codes placement.left placement.right codes)))

@@ -1,11 +1,11 @@
 -- What a caller of the writer brings: a record that can be written for its read.
-use Rattle.std.specs.Prelude.{ℕ, ◌+◌, ◌-◌, ◌^◌, ◌≤◌, ◌<◌, ◌≡◌, Bool, true, false, List, length, ltb}
+use Rattle.std.specs.Prelude.{ℕ, ◌+◌, ◌^◌, ◌≤◌, ◌<◌, ◌≡◌, Bool, true, false, List, length, ltb}
 use Rattle.dna.specs.Record.{max_entries, max_n_positions}
 use Rattle.dna.specs.declared.Placement.{Placement}
 use Rattle.dna.specs.declared.Record.{Record}
 use Rattle.dna.specs.declared.Record.TheVariants as kinds
 use Rattle.format.specs.RuleRecord.{n_offsets_of}
-use Rattle.letter_packing.specs.Read.{ReadLies, codes_in}
+use Rattle.letter_packing.specs.Read.{ReadFits, codes_of}
 
 -- Whether an N list follows, where `count` letters are N: not in raw4.
 unfoldable pub list_stored : (record' : Record) (count : ℕ) → Bool
@@ -28,12 +28,11 @@ KindFits (kinds.Local placement) size = PlacementFits placement size
 KindFits kinds.Raw size = Unit {0}
 KindFits kinds.Raw4 size = Unit {0}
 
--- A record that can be written: its read lies in the letters and has `count` letters N, no more
--- than a list may name where one is stored, and there are no more entries than can be counted.
-pub record Writable (record' : Record) (entries : ℕ) (letters : List ℕ) (from to count : ℕ) : Type 0
-  where
-    pub lies : ReadLies letters from to
-    pub counted : count ≡ length (n_offsets_of (codes_in letters from to))
-    pub listed : list_stored record' count ≡ true → count ≤ max_n_positions
-    pub few : entries ≤ max_entries
-    pub kind : KindFits record' (to - from)
+-- A record that can be written: its read has `count` letters N, no more than a list may name where
+-- one is stored, and there are no more entries than can be counted.
+pub record Writable (record' : Record) (entries : ℕ) (read : List ℕ) (count : ℕ) : Type 0 where
+  pub fits : ReadFits read
+  pub counted : count ≡ length (n_offsets_of (codes_of read))
+  pub listed : list_stored record' count ≡ true → count ≤ max_n_positions
+  pub few : entries ≤ max_entries
+  pub kind : KindFits record' (length read)

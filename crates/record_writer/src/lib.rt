@@ -2,22 +2,21 @@
 // placement, the position before, its entry bytes and the letters of its read. position.rt and
 // kinds.rt write the parts. The contracts cite specs/Written.antt; each `requires` says that the
 // record can be written (specs/Writable.antt), and that there is room.
-#![tactic(auto)]
+#![tactic(auto, unfolding(base::specs::Packed::packed_length))]
 
 ghost use Rattle.std.specs.Prelude.{◌≡◌, List, ℕ, ◌+◌, ◌^◌, ◌≤◌, length};
 ghost use Rattle.base.specs.Paste.{pasted};
 ghost use Rattle.dna.specs.Record.{max_entries, Entry};
-ghost use Rattle.dna.specs.RecordAt.{entries_at};
 ghost use Rattle.dna.specs.Sizes.{max_read_length};
-ghost use Rattle.letter_packing.specs.Read.{codes_in};
+ghost use Rattle.letter_packing.specs.Read.{codes_of};
+ghost use Rattle.record_writer.specs.Parts.{entries_of};
 ghost use Rattle.record_writer.specs.Written.{fields_written, written_bytes};
 ghost use Rattle.record_writer.specs.Writable.{list_stored, KindFits, Writable};
 
 use dna::Record;
-use integers::size8;
 use kinds::{GLOBAL_BIT, put_aligned, put_local, put_raw, put_raw4};
 use n_lists::{n_list_length, put_n_list};
-use packing::{packed_length2, packed_length4};
+use packing::packed_length;
 use position::{position_length, put_position};
 
 // The position, as a step or by itself.
@@ -31,51 +30,43 @@ pub fn record_length(
     record: Record,
     previous: u64,
     entries: usize,
-    letters: &[u8],
-    from: usize,
-    to: usize,
+    read: &[u8],
     count: usize,
 ) -> usize
-    requires { Writable «record» entries letters.now from to count }
+    requires { Writable «record» entries read.now count }
     ensures { ((written : List Entry) → length written ≡ entries
         → result ≡ length (written_bytes previous «record» written
-        (codes_in letters.now from to))) × (result ≤ 2 ^ 24) }
+        (codes_of read.now))) × (result ≤ 2 ^ 24) }
 {
-    let fields = fields_length(record, previous, entries, to - from);
+    let fields = fields_length(record, previous, entries, read.len());
     if list_stored(record, count) {
-        return fields + n_list_length(letters, from, to, count);
+        return fields + n_list_length(read, count);
     }
     fields
 }
 
-// Writes a record; the answer is the place after it. Its entries are the first bytes of `list`.
+// Writes a record; the answer is the place after it. Each byte of `entries` is one of its entries.
 pub fn put_record(
     record: Record,
     previous: u64,
-    list: &[u8],
-    entries: usize,
-    letters: &[u8],
-    from: usize,
-    to: usize,
+    entries: &[u8],
+    read: &[u8],
     count: usize,
     out: &mut [u8],
     at: usize,
 ) -> usize
-    requires writable { (Writable «record» entries letters.now from to count)
-        × (entries ≤ length list.now) }
-    requires to_in_bounds { at + length (written_bytes previous «record» (entries_at list.now 0 entries)
-        (codes_in letters.now from to)) ≤ length out.old }
+    requires writable { Writable «record» (length entries.now) read.now count }
+    requires read_in_bounds { at + length (written_bytes previous «record» (entries_of entries.now)
+        (codes_of read.now)) ≤ length out.old }
     ensures { (out.new ≡ pasted out.old at
-        (written_bytes previous «record» (entries_at list.now 0 entries)
-        (codes_in letters.now from to)))
+        (written_bytes previous «record» (entries_of entries.now)
+        (codes_of read.now)))
         × (result ≡ at + length (written_bytes previous «record»
-        (entries_at list.now 0 entries) (codes_in letters.now from to))) }
+        (entries_of entries.now) (codes_of read.now))) }
 {
-    let next = put_fields(
-        record, previous, list, entries, letters, from, to, count, out, at,
-    );
+    let next = put_fields(record, previous, entries, read, count, out, at);
     if list_stored(record, count) {
-        return put_n_list(letters, from, to, count, out, next);
+        return put_n_list(read, count, out, next);
     }
     next
 }
@@ -85,11 +76,8 @@ fn list_stored(record: Record, count: usize) -> bool
     ensures { result ≡ list_stored «record» count }
 {
     match record {
-        Record::Perfect(_) => 0 < count,
-        Record::Global(_) => 0 < count,
-        Record::Local(_) => 0 < count,
-        Record::Raw => 0 < count,
         Record::Raw4 => false,
+        _ => 0 < count,
     }
 }
 
@@ -106,11 +94,11 @@ fn fields_length(record: Record, previous: u64, entries: usize, size: usize) -> 
         Record::Perfect(placement) => position_length(previous, placement.position),
         Record::Global(placement) => { 1 + position_length(previous, placement.position) + entries }
         Record::Local(placement) => {
-            let ends = size8(placement.left) + size8(placement.right);
-            3 + position_length(previous, placement.position) + entries + packed_length2(ends)
+            let ends = usize::from(placement.left) + usize::from(placement.right);
+            3 + position_length(previous, placement.position) + entries + packed_length::<2>(ends)
         }
-        Record::Raw => 1 + packed_length2(size),
-        Record::Raw4 => 1 + packed_length4(size),
+        Record::Raw => 1 + packed_length::<2>(size),
+        Record::Raw4 => 1 + packed_length::<4>(size),
     }
 }
 
@@ -118,24 +106,20 @@ fn fields_length(record: Record, previous: u64, entries: usize, size: usize) -> 
 fn put_fields(
     record: Record,
     previous: u64,
-    list: &[u8],
-    entries: usize,
-    letters: &[u8],
-    from: usize,
-    to: usize,
+    entries: &[u8],
+    read: &[u8],
     count: usize,
     out: &mut [u8],
     at: usize,
 ) -> usize
-    requires writable { (Writable «record» entries letters.now from to count)
-        × (entries ≤ length list.now) }
-    requires to_in_bounds { at + length (fields_written previous «record» (entries_at list.now 0 entries)
-        (codes_in letters.now from to)) ≤ length out.old }
+    requires writable { Writable «record» (length entries.now) read.now count }
+    requires read_in_bounds { at + length (fields_written previous «record» (entries_of entries.now)
+        (codes_of read.now)) ≤ length out.old }
     ensures { (out.new ≡ pasted out.old at
-        (fields_written previous «record» (entries_at list.now 0 entries)
-        (codes_in letters.now from to)))
+        (fields_written previous «record» (entries_of entries.now)
+        (codes_of read.now)))
         × (result ≡ at + length (fields_written previous «record»
-        (entries_at list.now 0 entries) (codes_in letters.now from to))) }
+        (entries_of entries.now) (codes_of read.now))) }
 {
     match record {
         Record::Perfect(placement) => put_position(previous, placement.position, out, at),
@@ -143,15 +127,12 @@ fn put_fields(
             GLOBAL_BIT,
             previous,
             placement.position,
-            list,
             entries,
             out,
             at,
         ),
-        Record::Local(placement) => put_local(
-            placement, previous, list, entries, letters, from, to, out, at,
-        ),
-        Record::Raw => put_raw(letters, from, to, out, at),
-        Record::Raw4 => put_raw4(letters, from, to, out, at),
+        Record::Local(placement) => put_local(placement, previous, entries, read, out, at),
+        Record::Raw => put_raw(read, out, at),
+        Record::Raw4 => put_raw4(read, out, at),
     }
 }

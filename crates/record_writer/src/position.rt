@@ -14,10 +14,7 @@ const MAX_STEP: u64 = 65535;
 pub fn step_fits(previous: u64, position: u64) -> bool
     ensures { result ≡ step_fits previous position }
 {
-    if position < previous {
-        return false;
-    }
-    position - previous <= MAX_STEP
+    previous <= position && position - previous <= MAX_STEP
 }
 
 // How many bytes a position takes.

@@ -6,6 +6,7 @@ use mathlib.Core.Bool.{Bool, true, false, cond, not, ◌||◌}
 use mathlib.Core.List.{List, [], ◌∷◌, map}
 use lib.ListN.{length}
 use lib.Dec.{eqb}
+use Rattle.std.specs.Prelude.{Result, Err}
 use Rattle.base.specs.Lists.{ends_before, any, places_from}
 use Rattle.base.specs.Packed.{packed_length, symbols_at}
 use Rattle.base.specs.Faults.{Fault, fault}
@@ -25,7 +26,6 @@ use Rattle.records.specs.Decoded.{record_of, head_length, clip_bytes, layout_of,
 use Rattle.records.specs.Decoded.{decoded_at, entries_fit, list_from, with_list, strand_of}
 use Rattle.records.specs.declared.Bits.{Bits}
 use Rattle.records.specs.declared.nlist.NList.{NList}
-use Rattle.records.specs.declared.Decoded.TheVariants as answers
 
 -- ---- The faults of the fields, then the N list
 
@@ -47,7 +47,7 @@ checked-through {A} {B} f refuse keeps (g ∷ faults) rest =
 
 -- What follows the fields of a record.
 abbrev pub decoded_with : (context : ReadContext) (list : List ℕ) (at : ℕ) (fields : RecordFields)
-    (next : ℕ) → Decoded
+    (next : ℕ) → Result Decoded ℕ
 decoded_with context list at fields next =
     with_list (record_of context fields) (at + head_length context fields) (length (entries_of fields))
     (at + head_length context fields + length (entries_of fields) + clip_bytes fields)
@@ -70,7 +70,7 @@ module _ (context : ReadContext) (list : List ℕ) (at : ℕ) (fields : RecordFi
   pub decoded_judged : (next : ℕ) → fields_at context list at ≡ judged_at context list at fields
       → at + length (fields_bytes context fields) ≡ next
       → decoded_at context list at
-      ≡ checked answers.Refused (fault 12 (ends_before list next) ∷ field_faults context fields)
+      ≡ checked Err (fault 12 (ends_before list next) ∷ field_faults context fields)
       (decoded_with context list at fields next)
   unfolding record_at judged_at and_then decoded_from
   decoded_judged next judged ends =
@@ -79,11 +79,11 @@ module _ (context : ReadContext) (list : List ℕ) (at : ℕ) (fields : RecordFi
       (cond (has_n_list context fields') (n_list_at context.read_length list next') (found [] next'))
       (λ offsets end. found (record { fields = fields'; n_offsets = offsets }) end) in
       ap (λ (scan : Scan RecordFields). decoded_from context at (and_then scan rest)) judged
-      ∙ checked-through (λ scan. decoded_from context at (and_then scan rest)) answers.Refused
+      ∙ checked-through (λ scan. decoded_from context at (and_then scan rest)) Err
       (λ number. refl) _ _
-      ∙ ap (checked answers.Refused _) (with-list _)
+      ∙ ap (checked Err _) (with-list _)
       ∙ ap (λ (there : ℕ).
-      checked answers.Refused (fault 12 (ends_before list there) ∷ field_faults context fields)
+      checked Err (fault 12 (ends_before list there) ∷ field_faults context fields)
       (decoded_with context list at fields there))
       ends
 
@@ -127,7 +127,7 @@ length_letters base per some_base some_per list at n =
 -- ---- In the code's terms
 
 -- The N list of a read at a place.
-abbrev pub list_at : (bits : Bits) (size : ℕ) (list : List ℕ) (at : ℕ) → NList
+abbrev pub list_at : (bits : Bits) (size : ℕ) (list : List ℕ) (at : ℕ) → Result NList ℕ
 list_at bits size list at =
     list_from (at + cond bits.with_n 1 0)
     (cond bits.with_n (n_list_at size list at) (found [] at))

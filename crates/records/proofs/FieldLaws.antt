@@ -1,11 +1,11 @@
 -- Laws of the parts of a record: entries in a section one after the other, and what codes of 4 bits
 -- hold. Assumes nothing.
 use mathlib.Core.Path.{◌≡◌, refl, sym, ap, ap₂, ◌∙◌}
-use Prim.Native.Nat.{ℕ, zero, suc, ◌+◌, ◌-◌, ◌*◌, ◌/◌, ◌%◌, ◌≤◌, ◌<◌}
+use Prim.Native.Nat.{ℕ, zero, suc, max, ◌+◌, ◌-◌, ◌*◌, ◌/◌, ◌%◌, ◌≤◌, ◌<◌}
 use native.Mathlib.Omega.{arith}
 use mathlib.Core.Bool.{Bool, true, false, not, cond, ◌||◌}
 use mathlib.Core.List.{List, [], ◌∷◌, ◌++◌, map}
-use lib.ListN.{length, get_or}
+use lib.ListN.{length, get_or, take, drop}
 use lib.Dec.{leb, ltb, eqb}
 use borrow.Author.Tests.{lt-ltb, le-ltb, le-leb, lt-leb, eq-eqb, ne_eqb}
 use Rattle.base.specs.Lists.{build, any, member, places_from}
@@ -18,36 +18,42 @@ use Rattle.base.proofs.PackedLaws.{symbols_at_append}
 use Rattle.dna.specs.Record.{Entry}
 use Rattle.dna.specs.RecordFaults.{later_zero, any_outside}
 use Rattle.dna.specs.RecordAt.{entry_of, entries_at}
-use Rattle.records.specs.declared.fields.PositionRead.TheVariants as positions
-use Rattle.records.specs.Decoded.{position_at, entries_fit, codes_class}
+use Rattle.records.specs.declared.fields.PositionRead.{PositionRead}
+use Rattle.records.specs.Decoded.{position_at, entries_fit, codes_class, class_number}
+use Rattle.std.specs.Prelude.{Some, None, Err, Result, Ok}
+use Rattle.std.proofs.Math.Nat.{max-eq_left, max-eq_right}
+use Rattle.std.proofs.lemmas.List.{length-take-le, length-drop, get_or-take, get_or-drop}
 
 -- ---- The position
+
+abbrev pub found_position : (position next : ℕ) → Result PositionRead ℕ
+found_position position next = Ok (record { position = position; next = next })
 
 module _ (step : Bool) (previous : ℕ) (list : List ℕ) (at : ℕ) where
   -- The section ends before it.
   pub position_cut : (width : ℕ) → cond step 2 4 ≡ width → length list < at + width
-      → position_at step previous list at ≡ positions.Refused
+      → position_at step previous list at ≡ Err 12
   unfolding position_at
   position_cut width e cut =
       cond_yes _
       (ap (λ (w : ℕ). ltb (length list) (at + w)) e ∙ lt-ltb (length list) (at + width) cut) refl
 
   pub position_step : (field : ℕ) → step ≡ true → at + 2 ≤ length list → field ≡ le 2 list at
-      → position_at step previous list at ≡ positions.Found (previous + field) (at + 2)
+      → position_at step previous list at ≡ found_position (previous + field) (at + 2)
   unfolding position_at
   position_step field e whole is =
       ap (λ (t : Bool). position_at t previous list at) e
       ∙ cond_no _ (le-ltb (length list) (at + 2) whole)
-      (ap (λ (x : ℕ). positions.Found (previous + x) (at + 2)) (sym is))
+      (ap (λ (x : ℕ). found_position (previous + x) (at + 2)) (sym is))
 
   pub position_whole : (field : ℕ) → step ≡ false → at + 4 ≤ length list → field ≡ le 4 list at
-      → position_at step previous list at ≡ positions.Found field (at + 4)
+      → position_at step previous list at ≡ found_position field (at + 4)
   unfolding position_at
   position_whole field e whole is =
       let sum : 0 + le 4 list at ≡ field = omega arith in
       ap (λ (t : Bool). position_at t previous list at) e
       ∙ cond_no _ (le-ltb (length list) (at + 4) whole)
-      (ap (λ (x : ℕ). positions.Found x (at + 4)) sum)
+      (ap (λ (x : ℕ). found_position x (at + 4)) sum)
 
 -- ---- Entries
 
@@ -150,28 +156,28 @@ module _ (list : List ℕ) (at count aligned : ℕ) where
 
 -- ---- Codes of 4 bits
 
--- One code, as arithmetic.
-pub class-small : (code : ℕ) → code ≤ 4 → code / 4 ≡ codes_class (code ∷ [])
-unfolding codes_class member any
+-- One code.
+pub class-small : (code : ℕ) → code ≤ 4 → class_number (Some (eqb code 4)) ≡ codes_class (code ∷ [])
+unfolding class_number codes_class member any
 class-small code small =
     rw (le-ltb 4 code small)
     (by_order code 4
-    (λ l. rw (ne_eqb code 4 (λ e. omega arith)) (omega arith))
-    (λ g. rw (eq-eqb code 4 (omega arith)) (omega arith)))
+    (λ l. rw (ne_eqb code 4 (λ e. omega arith)) refl)
+    (λ g. rw (eq-eqb code 4 (omega arith)) refl))
 
-pub class_large : (code : ℕ) → 4 < code → 2 ≡ codes_class (code ∷ [])
-unfolding codes_class member any
+pub class_large : (code : ℕ) → 4 < code → class_number None ≡ codes_class (code ∷ [])
+unfolding class_number codes_class member any
 class_large code large = rw (lt-ltb 4 code large)
 
 -- Of two codes the larger one decides.
-pub class-second : (a b : ℕ) → a < b → codes_class (b ∷ []) ≡ codes_class (a ∷ b ∷ [])
+class-second : (a b : ℕ) → a < b → codes_class (b ∷ []) ≡ codes_class (a ∷ b ∷ [])
 unfolding codes_class member any
 class-second a b less =
     by_order 4 b
     (λ l. rw (lt-ltb 4 b l) (sym (cond_yes _ (or_right (ltb 4 a) true refl) refl)))
     (λ g. rw (le-ltb 4 b g, le-ltb 4 a (omega arith), ne_eqb a 4 (λ e. omega arith)))
 
-pub class-first : (a b : ℕ) → b ≤ a → codes_class (a ∷ []) ≡ codes_class (a ∷ b ∷ [])
+class-first : (a b : ℕ) → b ≤ a → codes_class (a ∷ []) ≡ codes_class (a ∷ b ∷ [])
 unfolding codes_class member any
 class-first a b less =
     by_order 4 a
@@ -181,6 +187,12 @@ class-first a b less =
     (by_order a 4
     (λ l. rw (ne_eqb b 4 (λ e. omega arith)))
     (λ m. rw (eq-eqb a 4 (omega arith)))))
+
+pub class-max : (a b : ℕ) → codes_class (max a b ∷ []) ≡ codes_class (a ∷ b ∷ [])
+class-max a b =
+    by_order a b
+    (λ l. rw (max-eq_right {n = a} {m = b} (omega arith)) (class-second a b l))
+    (λ g. rw (max-eq_left {n = a} {m = b} g) (class-first a b g))
 
 -- The class of two lists together goes by their classes.
 class_of : (above n : Bool) → ℕ
@@ -212,19 +224,38 @@ class-joined front back =
 
 pub class-append : (a b : ℕ) (front back : List ℕ) → codes_class (a ∷ []) ≡ codes_class front
     → codes_class (b ∷ []) ≡ codes_class back
-    → codes_class (a ∷ b ∷ []) ≡ codes_class (front ++ back)
+    → codes_class (max a b ∷ []) ≡ codes_class (front ++ back)
 class-append a b front back e f =
-    class-joined (a ∷ []) (b ∷ []) ∙ ap₂ joined e f ∙ sym (class-joined front back)
+    class-max a b
+    ∙ class-joined (a ∷ []) (b ∷ [])
+    ∙ ap₂ joined e f
+    ∙ sym (class-joined front back)
 
 -- ---- Codes in a section
 
 -- No code is of the class of A.
 pub class-none : (list : List ℕ) (at : ℕ)
-    → codes_class (0 ∷ []) ≡ codes_class (symbols_at 16 2 list at 0 (2 * 0))
+    → codes_class (0 ∷ []) ≡ codes_class (symbols_at 16 2 list at 0 0)
 unfolding codes_class member any symbols_at build
 class-none list at = refl
 
 module _ (list : List ℕ) (at k : ℕ) where
+  -- The codes of a part.
+  pub codes-part : at + k ≤ length list → let part : List ℕ = take (at + k - at) (drop at list) in
+      symbols_at 16 2 part 0 0 (2 * length part) ≡ symbols_at 16 2 list at 0 (2 * k)
+  unfolding symbols_at
+  codes-part whole =
+      let size : ℕ = at + k - at in
+      let rest : List ℕ = drop at list in
+      let many : length (take size rest) ≡ k =
+      length-take-le size rest (omega (arith, length-drop at list)) ∙ omega arith in
+      ap (λ (n : ℕ). symbols_at 16 2 (take size rest) 0 0 (2 * n)) many
+      ∙ build_cong (2 * k) _ _
+      (λ j h. ap (λ (byte : ℕ). digit 16 2 byte ((0 + j) % 2))
+      (get_or-take size rest (0 + (0 + j) / 2) 0 (omega arith)
+      ∙ get_or-drop at list (0 + (0 + j) / 2) 0
+      ∙ ap (λ (i : ℕ). get_or list i 0) (omega arith)))
+
   -- One byte more.
   pub codes_byte : (byte : ℕ) → byte ≡ get_or list (at + k) 0 → byte < 256
       → symbols_at 16 2 list at 0 (2 * k) ++ (byte / 16 ∷ byte % 16 ∷ [])

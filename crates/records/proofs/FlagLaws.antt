@@ -7,6 +7,7 @@ use mathlib.Core.List.{List}
 use lib.ListN.{length, get_or}
 use lib.Dec.{ltb, eqb}
 use borrow.Author.Tests.{eqb-true, lt-ltb, le-ltb, eq-eqb, ne_eqb}
+use Rattle.std.specs.Prelude.{Err}
 use Rattle.base.specs.Packed.{digit, bit}
 use Rattle.base.specs.Answer.{checked, and_then}
 use Rattle.base.proofs.AnswerLaws.{cond_no}
@@ -15,17 +16,16 @@ use Rattle.dna.specs.RecordFaults.{record_flag_invalid}
 use Rattle.dna.specs.RecordAt.{flagged_at, judged_at, fields_at, record_at}
 use Rattle.dna.proofs.RecordSound.{three-bits, bit-clear}
 use Rattle.records.specs.Decoded.{decoded_from, decoded_at}
-use Rattle.records.specs.declared.Decoded.TheVariants as answers
 
 module _ (context : ReadContext) (list : List ℕ) (at : ℕ) (kind : context.perfect_bit ≡ false) where
   -- No flag byte.
-  pub decoded_empty : length list ≤ at → decoded_at context list at ≡ answers.Refused 12
+  pub decoded_empty : length list ≤ at → decoded_at context list at ≡ Err 12
   unfolding record_at fields_at and_then decoded_from checked
   decoded_empty h = simp (kind, lt-ltb (length list) (at + 1) (omega arith))
 
   -- A flag byte that is wrong.
   pub decoded_invalid : at < length list → record_flag_invalid (get_or list at 0) ≡ true
-      → decoded_at context list at ≡ answers.Refused 14
+      → decoded_at context list at ≡ Err 14
   unfolding record_at fields_at and_then decoded_from checked
   decoded_invalid h invalid = simp (kind, le-ltb (length list) (at + 1) (omega arith), invalid)
 

@@ -7,3 +7,4 @@ pub mod NListLaws
 pub mod PositionLaws
 pub mod Raw4Laws
 pub mod RawLaws
+pub mod RefusalLaws

@@ -1,6 +1,7 @@
 -- What decoding one record answers, in the code's terms: the record of 01 with its place, and where
--- its lists stand in the section. The answer is that of dna's record_at.
-use Rattle.std.specs.Prelude.{ℕ, ◌+◌, ◌-◌, ◌*◌, Bool, not, cond, ◌||◌, List, [], ◌∷◌, map, length, leb, ltb, eqb}
+-- its lists stand in the section, or the number of its first fault. The answer is that of dna's
+-- record_at.
+use Rattle.std.specs.Prelude.{ℕ, ◌+◌, ◌-◌, ◌*◌, Bool, not, cond, ◌||◌, List, [], ◌∷◌, map, length, leb, ltb, eqb, Option, Some, None, Result, Ok, Err}
 use Rattle.base.specs.Lists.{ends_before, any, member, places_from}
 use Rattle.base.specs.Numbers.{le}
 use Rattle.base.specs.Packed.{packed_length, symbols_at}
@@ -18,15 +19,12 @@ use Rattle.dna.specs.declared.Placement.{Placement}
 use Rattle.dna.specs.declared.Record.{Record}
 use Rattle.dna.specs.declared.Record.TheVariants as kinds
 use Rattle.records.specs.declared.Bits.{Bits}
+use Rattle.records.specs.declared.context.Context.{Context}
 use Rattle.records.specs.declared.Layout.{Layout}
 use Rattle.records.specs.declared.Decoded.{Decoded}
-use Rattle.records.specs.declared.Decoded.TheVariants as answers
 use Rattle.records.specs.declared.fields.PositionRead.{PositionRead}
-use Rattle.records.specs.declared.fields.PositionRead.TheVariants as positions
 use Rattle.records.specs.declared.nlist.NPlace.{NPlace}
-use Rattle.records.specs.declared.nlist.NPlace.TheVariants as places
 use Rattle.records.specs.declared.nlist.NList.{NList}
-use Rattle.records.specs.declared.nlist.NList.TheVariants as lists
 
 -- What is known of a read before its record.
 abbrev pub context_from : (bits : Bits) (read_length previous bases : ℕ) → ReadContext
@@ -40,6 +38,11 @@ context_from bits read_length previous bases =
       with_n = bits.with_n;
       incremental = bits.step;
     }
+
+-- The same of the code's context.
+abbrev pub context_of : (context : Context) → ReadContext
+context_of context =
+    context_from context.bits context.size context.previous context.bases
 
 -- The strand of a read's Forward bit.
 unfoldable pub strand_of : (forward : Bool) → Strand
@@ -98,22 +101,32 @@ layout_of context at stored next =
       end = next;
     }
 
-unfoldable pub decoded_from : (context : ReadContext) (at : ℕ) (scan : Scan StoredRecord) → Decoded
+unfoldable pub decoded_from : (context : ReadContext) (at : ℕ) (scan : Scan StoredRecord)
+    → Result Decoded ℕ
 decoded_from context at (found stored next) =
-    answers.Found (record_of context stored.fields) (layout_of context at stored next)
-decoded_from context at (refused number) = answers.Refused number
+    Ok
+    (record {
+      «record» = record_of context stored.fields;
+      layout = layout_of context at stored next;
+    })
+decoded_from context at (refused number) = Err number
 
 -- Decoding the record at a place.
-abbrev pub decoded_at : (context : ReadContext) (list : List ℕ) (at : ℕ) → Decoded
+abbrev pub decoded_at : (context : ReadContext) (list : List ℕ) (at : ℕ) → Result Decoded ℕ
 decoded_at context list at = decoded_from context at (record_at context list at)
 
 -- ---- Parts of a record
 
 -- A position: the field, or with pos_t set the field added to the position before.
-unfoldable pub position_at : (step : Bool) (previous : ℕ) (list : List ℕ) (at : ℕ) → PositionRead
+unfoldable pub position_at : (step : Bool) (previous : ℕ) (list : List ℕ) (at : ℕ)
+    → Result PositionRead ℕ
 position_at step previous list at =
-    cond (ends_before list (at + cond step 2 4)) positions.Refused
-    (positions.Found (cond step previous 0 + le (cond step 2 4) list at) (at + cond step 2 4))
+    cond (ends_before list (at + cond step 2 4)) (Err 12)
+    (Ok
+    (record {
+      position = cond step previous 0 + le (cond step 2 4) list at;
+      next = at + cond step 2 4;
+    }))
 
 -- Whether 17 does not fit so many entries at a place.
 unfoldable pub entries_fit : (list : List ℕ) (at count aligned : ℕ) → Bool
@@ -126,29 +139,40 @@ unfoldable pub codes_class : (codes : List ℕ) → ℕ
 codes_class codes =
     cond (any (λ code. ltb code_n code) codes) 2 (cond (member code_n codes) 1 0)
 
+-- The same as the code answers it: whether one is N, and none where one is above 4.
+unfoldable pub class_number : (holds_n : Option Bool) → ℕ
+class_number None = 2
+class_number (Some holds_n) = cond holds_n 1 0
+
 -- The place of an N from the one before it, by the scan of its offset.
-unfoldable pub place_from : (before : ℕ) (scan : Scan ℕ) → NPlace
-place_from before (found offset next) = places.Found (before + offset) next
-place_from before (refused number) = places.Refused number
+unfoldable pub place_from : (before : ℕ) (scan : Scan ℕ) → Result NPlace ℕ
+place_from before (found offset next) = Ok (record { place = before + offset; next = next })
+place_from before (refused number) = Err number
 
 -- An N list, whose words begin at `first`.
-unfoldable pub list_from : (first : ℕ) (scan : Scan (List ℕ)) → NList
-list_from first (found offsets next) = lists.Found first (length offsets) next
-list_from first (refused number) = lists.Refused number
+unfoldable pub list_from : (first : ℕ) (scan : Scan (List ℕ)) → Result NList ℕ
+list_from first (found offsets next) =
+    Ok (record { first = first; count = length offsets; end = next })
+list_from first (refused number) = Err number
 
 -- What decoding makes of a record whose fields are right and of the answer of its N list.
-unfoldable pub with_list : (record' : Record) (entries count packed : ℕ) (n_list : NList) → Decoded
-with_list record' entries count packed (lists.Found first places end) =
-    answers.Found record'
+unfoldable pub with_list : (record' : Record) (entries count packed : ℕ) (n_list : Result NList ℕ)
+    → Result Decoded ℕ
+with_list record' entries count packed (Ok list) =
+    Ok
     (record {
-      entries = entries;
-      entry_count = count;
-      packed = packed;
-      n_list = first;
-      n_count = places;
-      end = end;
+      «record» = record';
+      layout =
+          record {
+            entries = entries;
+            entry_count = count;
+            packed = packed;
+            n_list = list.first;
+            n_count = list.count;
+            end = list.end;
+          };
     })
-with_list record' entries count packed (lists.Refused number) = answers.Refused number
+with_list record' entries count packed (Err number) = Err number
 
 -- 15 of a local record: its stretch runs up from the position, or on the reverse strand down from
 -- it.

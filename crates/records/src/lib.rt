@@ -1,15 +1,15 @@
 // One record of the DNA section (01, Records): decoded with its faults 12 to 20. The contracts cite
 // specs/Decoded.antt, which stands on specs/RecordAt.antt of dna. Every `requires` says what a walk
-// over the section has: the place lies inside, the read is no longer than a read may be, and the
-// position before and the reference are below 2 ^ 32, so that no sum wraps.
+// over the section has: the place lies inside. What is known of the read keeps its own bounds.
 #![tactic(auto)]
 
 ghost use Rattle.std.specs.Prelude.{◌≡◌, true, false, ◌||◌, ◌+◌, ◌*◌, ◌≤◌, ◌<◌, ◌^◌, length, get_or};
 ghost use Rattle.base.specs.Packed.{packed_length};
 ghost use Rattle.base.specs.Answer.{first_number};
+ghost use Rattle.dna.specs.Refused.{number_of, numbered};
 ghost use Rattle.dna.specs.Sizes.{max_read_length};
 ghost use Rattle.records.specs.Decoded.{
-  context_from,
+  context_of,
   strand_of,
   decoded_at,
   with_list,
@@ -17,16 +17,14 @@ ghost use Rattle.records.specs.Decoded.{
   local_faults,
 };
 
-use crate::fields::{PositionRead, codes_class, entries_fit, read_position};
+use crate::context::Context;
+use crate::fields::{PositionRead, entries_fit, holds_n, read_position};
 use crate::nlist::{NList, read_n_list};
-use dna::refusals::{
-    BASE_CODE_INVALID, CLIPS_INVALID, DNA_TRUNCATED, ENTRY_OFFSET_INVALID, FLAG_BIT_STRAY,
-    N_POSITIONS_INVALID, PADDING_NONZERO, RECORD_FLAG_INVALID, SPAN_OUTSIDE_REFERENCE,
-};
+use dna::refusals::Refusal;
 use dna::{Placement, Record, Strand};
-use integers::size8;
-use packing::{packed_length2, packed_length4, padding_is_zero2, padding_is_zero4};
+use packing::{packed_length, padding_is_zero};
 
+pub mod context;
 pub mod fields;
 pub mod nlist;
 
@@ -50,69 +48,49 @@ pub struct Layout {
     pub end: usize,
 }
 
-// The record at a place, or the number of its first fault.
+// The record at a place, and where its lists stand.
 #[derive(Clone, Copy)]
-pub enum Decoded {
-    Found(Record, Layout),
-    Refused(u32),
+pub struct Decoded {
+    pub record: Record,
+    pub layout: Layout,
 }
 
-// Decodes the record at `at` of a read of `size` letters.
-pub fn decode_record(
-    section: &[u8],
-    at: usize,
-    bits: Bits,
-    size: usize,
-    previous: u64,
-    bases: u64,
-) -> Decoded
-    requires { (at ≤ length section.now) × (size ≤ max_read_length) × (previous < 2 ^ 32)
-        × (bases < 2 ^ 32) }
-    ensures { result ≡ decoded_at (context_from bits size previous bases) section.now
-        at }
+// Decodes the record at `at` of a read.
+pub fn decode_record(section: &[u8], at: usize, context: Context) -> Result<Decoded, Refusal>
+    requires { at ≤ length section.now }
+    ensures { numbered result ≡ decoded_at (context_of context) section.now at }
 {
-    if bits.perfect {
-        return decode_perfect(section, at, bits, size, previous, bases);
+    if context.bits.perfect {
+        return decode_perfect(section, at, context);
     }
     if section.len() <= at {
-        return Decoded::Refused(DNA_TRUNCATED);
+        return Err(Refusal::DnaTruncated);
     }
     let flag = section[at];
     let kind = flag % 8;
-    let count = size8(flag / 8);
+    let count = usize::from(flag / 8);
     match kind {
-        4 => decode_global(section, at, count, bits, size, previous, bases),
-        0 => decode_local(section, at, count, bits, size, previous, bases),
-        2 => decode_raw(section, at, count, bits, size, previous, bases),
-        1 => decode_raw4(section, at, count, bits, size, previous, bases),
-        _ => Decoded::Refused(RECORD_FLAG_INVALID),
+        4 => decode_global(section, at, count, context),
+        0 => decode_local(section, at, count, context),
+        2 => decode_raw(section, at, count, context),
+        1 => decode_raw4(section, at, count, context),
+        _ => Err(Refusal::RecordFlagInvalid),
     }
 }
 
 // A perfect record: a position.
-fn decode_perfect(
-    section: &[u8],
-    at: usize,
-    bits: Bits,
-    size: usize,
-    previous: u64,
-    bases: u64,
-) -> Decoded
-    requires at_in_bounds { (at ≤ length section.now) × (size ≤ max_read_length) × (previous < 2 ^ 32)
-        × (bases < 2 ^ 32) }
-    requires perfect_value { bits.perfect ≡ true }
-    ensures { result ≡ decoded_at (context_from bits size previous bases) section.now
-        at }
+fn decode_perfect(section: &[u8], at: usize, context: Context) -> Result<Decoded, Refusal>
+    requires at_in_bounds { at ≤ length section.now }
+    requires perfect_value { context.bits.perfect ≡ true }
+    ensures { numbered result ≡ decoded_at (context_of context) section.now at }
 {
-    let PositionRead::Found(position, next) = read_position(section, at, bits.step, previous) else {
-        return Decoded::Refused(DNA_TRUNCATED);
-    };
-    if bases < position + size as u64 {
-        return Decoded::Refused(SPAN_OUTSIDE_REFERENCE);
+    let start = read_position(section, at, context.bits.step, context.previous)?;
+    if context.bases < start.position + context.size as u64 {
+        return Err(Refusal::SpanOutsideReference);
     }
-    let placement = placement_of(position, bits.forward, 0, 0);
-    let list = read_n_list(section, next, bits.with_n, size);
-    with_list(Record::Perfect(placement), next, 0, next, list)
+    let placement = placement_of(start.position, context.bits.forward, 0, 0);
+    let list = read_n_list(section, start.next, context.bits.with_n, context.size);
+    with_list(Record::Perfect(placement), start.next, 0, start.next, list)
 }
 
 // A global record: a position and 1 to 31 entries.
@@ -120,37 +98,29 @@ fn decode_global(
     section: &[u8],
     at: usize,
     count: usize,
-    bits: Bits,
-    size: usize,
-    previous: u64,
-    bases: u64,
-) -> Decoded
-    requires at_in_bounds { (at < length section.now) × (size ≤ max_read_length) × (previous < 2 ^ 32)
-        × (bases < 2 ^ 32) }
-    requires perfect_value { (bits.perfect ≡ false) × (get_or section.now at 0 ≡ count * 8 + 4) }
-    ensures { result ≡ decoded_at (context_from bits size previous bases) section.now
-        at }
+    context: Context,
+) -> Result<Decoded, Refusal>
+    requires at_in_bounds { at < length section.now }
+    requires perfect_value { (context.bits.perfect ≡ false) × (get_or section.now at 0 ≡ count * 8 + 4) }
+    ensures { numbered result ≡ decoded_at (context_of context) section.now at }
 {
     if count == 0 {
-        return Decoded::Refused(RECORD_FLAG_INVALID);
+        return Err(Refusal::RecordFlagInvalid);
     }
-    let PositionRead::Found(position, entries) = read_position(section, at + 1, bits.step, previous)
-    else {
-        return Decoded::Refused(DNA_TRUNCATED);
-    };
-    if section.len() - entries < count {
-        return Decoded::Refused(DNA_TRUNCATED);
+    let start = read_position(section, at + 1, context.bits.step, context.previous)?;
+    if section.len() - start.next < count {
+        return Err(Refusal::DnaTruncated);
     }
-    if bases < position + size as u64 {
-        return Decoded::Refused(SPAN_OUTSIDE_REFERENCE);
+    if context.bases < start.position + context.size as u64 {
+        return Err(Refusal::SpanOutsideReference);
     }
-    if !entries_fit(section, entries, count, size) {
-        return Decoded::Refused(ENTRY_OFFSET_INVALID);
+    if !entries_fit(section, start.next, count, context.size) {
+        return Err(Refusal::EntryOffsetInvalid);
     }
-    let next = entries + count;
-    let placement = placement_of(position, bits.forward, 0, 0);
-    let list = read_n_list(section, next, bits.with_n, size);
-    with_list(Record::Global(placement), entries, count, next, list)
+    let next = start.next + count;
+    let placement = placement_of(start.position, context.bits.forward, 0, 0);
+    let list = read_n_list(section, next, context.bits.with_n, context.size);
+    with_list(Record::Global(placement), start.next, count, next, list)
 }
 
 // A local record: a position, entries, left and right, and the letters of the ends.
@@ -158,83 +128,53 @@ fn decode_local(
     section: &[u8],
     at: usize,
     count: usize,
-    bits: Bits,
-    size: usize,
-    previous: u64,
-    bases: u64,
-) -> Decoded
-    requires at_in_bounds { (at < length section.now) × (size ≤ max_read_length) × (previous < 2 ^ 32)
-        × (bases < 2 ^ 32) }
-    requires perfect_value { (bits.perfect ≡ false) × (get_or section.now at 0 ≡ count * 8) }
-    ensures { result ≡ decoded_at (context_from bits size previous bases) section.now
-        at }
+    context: Context,
+) -> Result<Decoded, Refusal>
+    requires at_in_bounds { at < length section.now }
+    requires perfect_value { (context.bits.perfect ≡ false) × (get_or section.now at 0 ≡ count * 8) }
+    ensures { numbered result ≡ decoded_at (context_of context) section.now at }
 {
-    let PositionRead::Found(position, entries) = read_position(section, at + 1, bits.step, previous)
-    else {
-        return Decoded::Refused(DNA_TRUNCATED);
-    };
-    if section.len() - entries < count + 2 {
-        return Decoded::Refused(DNA_TRUNCATED);
+    let start = read_position(section, at + 1, context.bits.step, context.previous)?;
+    if section.len() - start.next < count + 2 {
+        return Err(Refusal::DnaTruncated);
     }
-    let left = section[entries + count];
-    let right = section[entries + count + 1];
-    let clipped = size8(left) + size8(right);
-    let packed = entries + count + 2;
-    let bytes = packed_length2(clipped);
+    let left = section[start.next + count];
+    let right = section[start.next + count + 1];
+    let clipped = usize::from(left) + usize::from(right);
+    let packed = start.next + count + 2;
+    let bytes = packed_length::<2>(clipped);
     if section.len() - packed < bytes {
-        return Decoded::Refused(DNA_TRUNCATED);
+        return Err(Refusal::DnaTruncated);
     }
-    let number = local_fault(
-        section,
-        entries,
-        count,
-        clipped,
-        size,
-        bits.forward,
-        position,
-        bases,
-    );
-    if number != 0 {
-        return Decoded::Refused(number);
-    }
+    local_fault(section, start, count, clipped, context)?;
     let next = packed + bytes;
-    let placement = placement_of(position, bits.forward, left, right);
-    let list = read_n_list(section, next, bits.with_n, size);
-    with_list(Record::Local(placement), entries, count, packed, list)
+    let placement = placement_of(start.position, context.bits.forward, left, right);
+    let list = read_n_list(section, next, context.bits.with_n, context.size);
+    with_list(Record::Local(placement), start.next, count, packed, list)
 }
 
 // A raw record: letters of 2 bits.
-fn decode_raw(
-    section: &[u8],
-    at: usize,
-    count: usize,
-    bits: Bits,
-    size: usize,
-    previous: u64,
-    bases: u64,
-) -> Decoded
-    requires at_in_bounds { (at < length section.now) × (size ≤ max_read_length) × (previous < 2 ^ 32)
-        × (bases < 2 ^ 32) }
-    requires perfect_value { (bits.perfect ≡ false) × (get_or section.now at 0 ≡ count * 8 + 2) }
-    ensures { result ≡ decoded_at (context_from bits size previous bases) section.now
-        at }
+fn decode_raw(section: &[u8], at: usize, count: usize, context: Context) -> Result<Decoded, Refusal>
+    requires at_in_bounds { at < length section.now }
+    requires perfect_value { (context.bits.perfect ≡ false) × (get_or section.now at 0 ≡ count * 8 + 2) }
+    ensures { numbered result ≡ decoded_at (context_of context) section.now at }
 {
     if count != 0 {
-        return Decoded::Refused(RECORD_FLAG_INVALID);
+        return Err(Refusal::RecordFlagInvalid);
     }
     let start = at + 1;
-    let bytes = packed_length2(size);
+    let bytes = packed_length::<2>(context.size);
     if section.len() - start < bytes {
-        return Decoded::Refused(DNA_TRUNCATED);
+        return Err(Refusal::DnaTruncated);
     }
-    if raw_bit_stray(bits) {
-        return Decoded::Refused(FLAG_BIT_STRAY);
+    if raw_bit_stray(context.bits) {
+        return Err(Refusal::FlagBitStray);
     }
-    if !padding_is_zero2(section, start, size) {
-        return Decoded::Refused(PADDING_NONZERO);
+    if !padding_is_zero::<2>(section, start, context.size) {
+        return Err(Refusal::PaddingNonzero);
     }
     let next = start + bytes;
-    let list = read_n_list(section, next, bits.with_n, size);
+    let list = read_n_list(section, next, context.bits.with_n, context.size);
     with_list(Record::Raw, start, 0, start, list)
 }
 
@@ -243,75 +183,68 @@ fn decode_raw4(
     section: &[u8],
     at: usize,
     count: usize,
-    bits: Bits,
-    size: usize,
-    previous: u64,
-    bases: u64,
-) -> Decoded
-    requires at_in_bounds { (at < length section.now) × (size ≤ max_read_length) × (previous < 2 ^ 32)
-        × (bases < 2 ^ 32) }
-    requires perfect_value { (bits.perfect ≡ false) × (get_or section.now at 0 ≡ count * 8 + 1) }
-    ensures { result ≡ decoded_at (context_from bits size previous bases) section.now
-        at }
+    context: Context,
+) -> Result<Decoded, Refusal>
+    requires at_in_bounds { at < length section.now }
+    requires perfect_value { (context.bits.perfect ≡ false) × (get_or section.now at 0 ≡ count * 8 + 1) }
+    ensures { numbered result ≡ decoded_at (context_of context) section.now at }
 {
     if count != 0 {
-        return Decoded::Refused(RECORD_FLAG_INVALID);
+        return Err(Refusal::RecordFlagInvalid);
     }
     let start = at + 1;
-    let bytes = packed_length4(size);
+    let bytes = packed_length::<4>(context.size);
     if section.len() - start < bytes {
-        return Decoded::Refused(DNA_TRUNCATED);
+        return Err(Refusal::DnaTruncated);
     }
-    if raw_bit_stray(bits) {
-        return Decoded::Refused(FLAG_BIT_STRAY);
+    if raw_bit_stray(context.bits) {
+        return Err(Refusal::FlagBitStray);
     }
-    let class = codes_class(section, start, size);
-    if class == 2 {
-        return Decoded::Refused(BASE_CODE_INVALID);
+    let Some(has_n) = holds_n(section, start, context.size) else {
+        return Err(Refusal::BaseCodeInvalid);
+    };
+    if !padding_is_zero::<4>(section, start, context.size) {
+        return Err(Refusal::PaddingNonzero);
     }
-    if !padding_is_zero4(section, start, size) {
-        return Decoded::Refused(PADDING_NONZERO);
-    }
-    if (class == 1) != bits.with_n {
-        return Decoded::Refused(N_POSITIONS_INVALID);
+    if has_n != context.bits.with_n {
+        return Err(Refusal::NPositionsInvalid);
     }
     let end = start + bytes;
-    with_list(Record::Raw4, start, 0, start, NList::Found(end, 0, end))
+    let list = NList {
+        first: end,
+        count: 0,
+        end,
+    };
+    with_list(Record::Raw4, start, 0, start, Ok(list))
 }
 
-// The first of 16, 15, 17 and 19 that fits a local record whose bytes are there, or 0.
+// The first of 16, 15, 17 and 19 that fits a local record whose bytes are there.
 fn local_fault(
     section: &[u8],
-    entries: usize,
+    start: PositionRead,
     count: usize,
     clipped: usize,
-    size: usize,
-    forward: bool,
-    position: u64,
-    bases: u64,
-) -> u32
-    requires { (entries + count + 2 + packed_length 4 clipped ≤ length section.now)
-        × (count < 32) × (size ≤ max_read_length) × (position < 2 ^ 33) }
-    ensures { result ≡ first_number (local_faults section.now entries count clipped size
-        forward position bases) }
+    context: Context,
+) -> Result<(), Refusal>
+    requires { (start.next + count + 2 + packed_length 4 clipped ≤ length section.now)
+        × (count < 32) × (start.position < 2 ^ 33) }
+    ensures { number_of result ≡ first_number (local_faults section.now start.next count clipped
+        context.size context.bits.forward start.position context.bases) }
 {
-    if clipped == 0 {
-        return CLIPS_INVALID;
+    if clipped == 0 || context.size <= clipped {
+        return Err(Refusal::ClipsInvalid);
     }
-    if size <= clipped {
-        return CLIPS_INVALID;
+    let aligned = context.size - clipped;
+    if local_outside(context.bits.forward, start.position, aligned, context.bases) {
+        return Err(Refusal::SpanOutsideReference);
     }
-    let aligned = size - clipped;
-    if local_outside(forward, position, aligned, bases) {
-        return SPAN_OUTSIDE_REFERENCE;
+    if !entries_fit(section, start.next, count, aligned) {
+        return Err(Refusal::EntryOffsetInvalid);
     }
-    if !entries_fit(section, entries, count, aligned) {
-        return ENTRY_OFFSET_INVALID;
+    if !padding_is_zero::<2>(section, start.next + count + 2, clipped) {
+        return Err(Refusal::PaddingNonzero);
     }
-    if !padding_is_zero2(section, entries + count + 2, clipped) {
-        return PADDING_NONZERO;
-    }
-    0
+    Ok(())
 }
 
 // Whether the stretch of a local record is not inside the reference: it runs up from the position,
@@ -323,30 +256,31 @@ fn local_outside(forward: bool, position: u64, aligned: usize, bases: u64) -> bo
     if forward {
         return bases < position + aligned as u64;
     }
-    if bases <= position {
-        return true;
-    }
-    position + 1 < aligned as u64
+    bases <= position || position + 1 < aligned as u64
 }
 
 // What a record whose fields are right is with the answer of its N list.
-fn with_list(found: Record, entries: usize, count: usize, packed: usize, list: NList) -> Decoded
-    ensures { result ≡ with_list found entries count packed list }
+fn with_list(
+    record: Record,
+    entries: usize,
+    count: usize,
+    packed: usize,
+    list: Result<NList, Refusal>,
+) -> Result<Decoded, Refusal>
+    ensures { numbered result ≡ with_list «record» entries count packed (numbered list) }
 {
-    match list {
-        NList::Refused(number) => Decoded::Refused(number),
-        NList::Found(n_list, n_count, end) => Decoded::Found(
-            found,
-            Layout {
-                entries: entries,
-                entry_count: count,
-                packed: packed,
-                n_list: n_list,
-                n_count: n_count,
-                end: end,
-            },
-        ),
-    }
+    let list = list?;
+    Ok(Decoded {
+        record,
+        layout: Layout {
+            entries,
+            entry_count: count,
+            packed,
+            n_list: list.first,
+            n_count: list.count,
+            end: list.end,
+        },
+    })
 }
 
 // A place on the reference.
@@ -359,10 +293,10 @@ fn placement_of(position: u64, forward: bool, left: u8, right: u8) -> Placement
     } }
 {
     Placement {
-        position: position,
+        position,
         strand: strand_of(forward),
-        left: left,
-        right: right,
+        left,
+        right,
     }
 }
 
@@ -380,8 +314,5 @@ fn strand_of(forward: bool) -> Strand
 fn raw_bit_stray(bits: Bits) -> bool
     ensures { result ≡ bits.forward || bits.step }
 {
-    if bits.forward {
-        return true;
-    }
-    bits.step
+    bits.forward || bits.step
 }

@@ -3,25 +3,24 @@
 use Prim.Native.Nat.{ℕ, ◌≤◌}
 use mathlib.Core.Path.{◌≡◌, refl, sym, subst, ◌∙◌}
 use mathlib.Core.List.{List, [], ◌∷◌}
+use Rattle.std.specs.Prelude.{Result, Ok, Err}
 use Rattle.base.specs.Lists.{AllBytes}
 use Rattle.base.specs.Answer.{Scan, found, refused}
 use Rattle.dna.specs.Sizes.{max_read_length}
 use Rattle.dna.specs.Reference.{reference_size_wrong, ReferenceFits}
 use Rattle.dna.specs.Record.{ReadContext, StoredRecord}
 use Rattle.dna.specs.RecordAt.{record_at}
-use Rattle.dna.specs.declared.Record.{Record}
-use Rattle.records.specs.declared.Layout.{Layout}
 use Rattle.records.specs.declared.Decoded.{Decoded}
-use Rattle.records.specs.declared.Decoded.TheVariants as answers
 use Rattle.records.specs.Decoded.{decoded_from, decoded_at}
 use Rattle.record_letters.specs.Printed.{Printable}
 use Rattle.record_letters.proofs.DecodedLaid.{decoded-printable}
 
 -- A record that is found can be printed.
-abbrev AnswerPrintable : (list reference : List ℕ) (read_length : ℕ) (answer : Decoded) → Type 0
-AnswerPrintable list reference read_length (answers.Found record' layout) =
-    Printable list reference read_length record' layout
-AnswerPrintable list reference read_length (answers.Refused number) = Unit {0}
+abbrev AnswerPrintable : (list reference : List ℕ) (read_length : ℕ) (answer : Result Decoded ℕ)
+    → Type 0
+AnswerPrintable list reference read_length (Ok decoded) =
+    Printable list reference read_length decoded.record decoded.layout
+AnswerPrintable list reference read_length (Err number) = Unit {0}
 
 -- The same by the scan of the record.
 scan-printable : (context : ReadContext) (reference list : List ℕ) (at : ℕ) → AllBytes list
@@ -36,10 +35,10 @@ scan-printable context reference list at bytes fits short (refused number) is = 
 -- What is found where decoding answers this.
 pub found-printable : (context : ReadContext) (reference list : List ℕ) (at : ℕ) → AllBytes list
     → ReferenceFits context.reference_bases reference → context.read_length ≤ max_read_length
-    → (answer : Decoded) (record' : Record) (layout : Layout)
-    → answer ≡ decoded_at context list at → answer ≡ answers.Found record' layout
-    → Printable list reference context.read_length record' layout
-found-printable context reference list at bytes fits short answer record' layout e is =
+    → (answer : Result Decoded ℕ) (decoded : Decoded)
+    → answer ≡ decoded_at context list at → answer ≡ Ok decoded
+    → Printable list reference context.read_length decoded.record decoded.layout
+found-printable context reference list at bytes fits short answer decoded e is =
     subst (AnswerPrintable list reference context.read_length) (sym e ∙ is)
     (scan-printable context reference list at bytes fits short (record_at context list at) refl)
 

@@ -7,10 +7,10 @@ use std::io;
 // The bits of a read.
 pub fn bits(perfect: bool, forward: bool, with_n: bool, step: bool) -> Bits {
     Bits {
-        perfect: perfect,
-        forward: forward,
-        with_n: with_n,
-        step: step,
+        perfect,
+        forward,
+        with_n,
+        step,
     }
 }
 

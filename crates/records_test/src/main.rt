@@ -6,7 +6,6 @@
 mod damage;
 mod good;
 mod lines;
-mod parts;
 mod show;
 
 use std::io;

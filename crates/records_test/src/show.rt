@@ -3,12 +3,12 @@ ghost use Rattle.std.specs.Prelude.{◌≤◌};
 ghost use Rattle.record_letters.specs.Printed.{Printable};
 
 use crate::lines::{end_line, put_number, put_word, start_line};
-use crate::parts::first_bytes;
+use dna::refusals::Refusal;
 use dna::{Placement, Record, Strand};
-use integers::{wide16, wide32, wide64};
 use record_letters::counts::differences;
 use record_letters::letters::{pair_table, put_read};
-use records::{Bits, Decoded, Layout, decode_record};
+use records::context::Context;
+use records::{Bits, Layout, decode_record};
 use reference::word_table;
 use std::io;
 
@@ -38,25 +38,37 @@ pub fn show_at(
     size: usize,
     previous: u32,
 ) -> io::Result<()> {
-    if READ_CAPACITY < size {
-        return Ok(());
-    }
-    if section.len() < at {
+    if READ_CAPACITY < size || section.len() < at {
         return Ok(());
     }
     start_line(rt, name)?;
     start_line(rt, b":")?;
     let reference = [0x1bu8, 0x1b, 0xe4];
-    match decode_record(section, at, bits, size, wide64(previous), 12) {
-        Decoded::Refused(number) => put_refused(rt, number)?,
-        Decoded::Found(record, layout) => put_found(rt, section, &reference, record, layout, size)?,
+    let previous = u64::from(previous);
+    let bases = 12;
+    let context = Context {
+        bits,
+        size,
+        previous,
+        bases,
+    };
+    match decode_record(section, at, context) {
+        Ok(decoded) => put_found(
+            rt,
+            section,
+            &reference,
+            decoded.record,
+            decoded.layout,
+            size,
+        )?,
+        Err(refusal) => put_refused(rt, refusal)?,
     }
     end_line(rt)
 }
 
-fn put_refused(rt: &impl Print, number: u32) -> io::Result<()> {
+fn put_refused(rt: &impl Print, refusal: Refusal) -> io::Result<()> {
     put_word(rt, b"refused")?;
-    put_number(rt, wide64(number))
+    put_number(rt, u64::from(refusal.number()))
 }
 
 // Kind and place, where the record ends, its counts, its letters, and how many of them its entries
@@ -91,7 +103,7 @@ fn put_found(
         &mut letters,
         0,
     );
-    put_word(rt, first_bytes(&letters, size))?;
+    put_word(rt, &letters[..size])?;
     put_word(rt, b"changed")?;
     put_number(rt, changed)
 }
@@ -110,11 +122,10 @@ fn put_kind(rt: &impl Print, record: Record) -> io::Result<()> {
 fn put_placed(rt: &impl Print, kind: &[u8], placement: Placement) -> io::Result<()> {
     put_word(rt, kind)?;
     put_number(rt, placement.position)?;
-    let strand = placement.strand;
-    put_strand(rt, strand)?;
+    put_strand(rt, placement.strand)?;
     put_word(rt, b"clips")?;
-    put_number(rt, wide64(wide32(wide16(placement.left))))?;
-    put_number(rt, wide64(wide32(wide16(placement.right))))
+    put_number(rt, u64::from(placement.left))?;
+    put_number(rt, u64::from(placement.right))
 }
 
 fn put_strand(rt: &impl Print, strand: Strand) -> io::Result<()> {

@@ -1,8 +1,8 @@
 -- A stretch is written in pieces, each at its place; one law serves both strands. Assumes nothing.
 use mathlib.Core.Path.{◌≡◌, refl, sym, ap, ◌∙◌}
-use Prim.Native.Nat.{ℕ, ◌+◌, ◌-◌, ◌*◌, ◌≤◌, ◌<◌}
+use Prim.Native.Nat.{ℕ, ◌+◌, ◌-◌, ◌*◌, ◌/◌, ◌%◌, ◌≤◌, ◌<◌}
 use native.Mathlib.Omega.{arith}
-use mathlib.Core.Bool.{Bool}
+use mathlib.Core.Bool.{Bool, true, false, cond}
 use mathlib.Core.List.{List}
 use lib.ListN.{length, get_or, set}
 use Rattle.base.specs.Numbers.{le_bytes}
@@ -13,6 +13,7 @@ use Rattle.base.proofs.FilledLaws.{Filled, filled_none, filled_more, filled_next
 use Rattle.dna.specs.Reference.{strand_base, stretch_index, letter_of_code, stretch_letters}
 use Rattle.dna.proofs.ReferenceLaws.{length-stretch_letters, get_or-stretch_letters, piece_leftmost}
 use Rattle.dna.proofs.ReferenceLaws.{stretch-piece}
+use Rattle.reference.specs.Stretch.{StretchFits}
 use Rattle.reference.specs.Tables.{word_table}
 use Rattle.reference.proofs.Words.{bases_byte-whole, table-letters, table_fits}
 
@@ -111,3 +112,27 @@ module _ (reference : List ℕ) (forward : Bool) (leftmost bases : ℕ) where
       let w₄ =
       piece_written new place₄ (bases - 4) 4 index₄ bases w₃ room e₄ p₄ s₄ (omega arith) (omega arith) (omega arith) in
       written_all w₄ room (omega arith)
+
+-- The letters of a byte of whole bytes of the reference lie where the strand has them.
+pub byte_piece : (forward : Bool) (first bytes j bases k : ℕ) → j < bytes → bases ≡ 4 * bytes → k ≡ 4 * j
+    → 4 * stretch_index forward first bytes j ≡ piece_leftmost forward (4 * first) bases k 4
+unfolding stretch_index
+byte_piece true first bytes j bases k inside whole place = omega arith
+byte_piece false first bytes j bases k inside whole place = omega arith
+
+-- A piece of whole bytes begins at a byte.
+pub whole_piece : (forward : Bool) (leftmost bases head count whole : ℕ)
+    → (leftmost + cond forward head (bases - head)) % 4 ≡ 0 → count % 4 ≡ 0 → head + count ≤ bases
+    → whole ≡ piece_leftmost forward leftmost bases head count
+    → 4 * (whole / 4) ≡ piece_leftmost forward leftmost bases head count
+whole_piece true leftmost bases head count whole here four room e = omega arith
+whole_piece false leftmost bases head count whole here four room e = omega arith
+
+-- A piece of a stretch lies on the reference.
+pub piece_fits : {reference : List ℕ} {leftmost bases : ℕ} (forward : Bool) (k count piece : ℕ)
+    → StretchFits reference leftmost bases → k + count ≤ bases
+    → piece ≡ piece_leftmost forward leftmost bases k count → StretchFits reference piece count
+piece_fits true k count piece fits room e =
+    record { inside = omega (arith, fits.inside); small = omega (arith, fits.small) }
+piece_fits false k count piece fits room e =
+    record { inside = omega (arith, fits.inside); small = omega (arith, fits.small) }

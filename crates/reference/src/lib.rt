@@ -3,7 +3,7 @@
 // once and lent to each call.
 #![tactic(auto)]
 
-ghost use Rattle.std.specs.Prelude.{◌≡◌, Bool, true, false, ◌+◌, ◌-◌, ◌*◌, ◌/◌, ◌<◌, ◌≤◌, ◌^◌, length, get_or};
+ghost use Rattle.std.specs.Prelude.{◌≡◌, Bool, true, false, cond, ◌+◌, ◌-◌, ◌*◌, ◌/◌, ◌%◌, ◌<◌, ◌≤◌, ◌^◌, length, get_or};
 ghost use Rattle.base.specs.Lists.{Below};
 ghost use Rattle.base.specs.Paste.{pasted};
 ghost use Rattle.dna.specs.Reference.{
@@ -19,8 +19,8 @@ ghost use Rattle.dna.specs.Reference.{
 ghost use Rattle.reference.specs.Stretch.{StretchFits, bases_byte};
 ghost use Rattle.reference.specs.Tables.{byte_word, word_table};
 
-use integers::{put_u32, put_u64, size8, u32_at, wide64};
-use packing::symbol2;
+use integers::{put_u32, put_u64, u32_at};
+use packing::symbol;
 
 // The most bases that a reference may have.
 pub const MAX_REFERENCE_BASES: u64 = 4_294_967_295;
@@ -41,7 +41,7 @@ pub fn base_at(reference: &[u8], index: usize) -> u8
     requires { index / 4 < length reference.now }
     ensures { result ≡ reference_base reference.now index }
 {
-    symbol2(reference, index)
+    symbol::<2>(reference, index)
 }
 
 // The complement of a base.
@@ -72,7 +72,58 @@ pub fn letter_of_code(code: u8) -> u8
     ((0x4e_5447_4341u64 >> (8 * code)) % 256) as u8
 }
 
-// The table of a strand, which the caller makes once and lends to each call.
+// The tables of words of both strands, which a caller makes once and lends to each call.
+#[derive(Drop)]
+pub struct WordTables {
+    pub forward: [u64; 256],
+    pub reverse: [u64; 256],
+    pub ghost forward_words: { forward ≡ word_table true },
+    pub ghost reverse_words: { reverse ≡ word_table false },
+}
+
+impl WordTables {
+    pub fn new() -> WordTables {
+        WordTables {
+            forward: word_table(true),
+            reverse: word_table(false),
+        }
+    }
+
+    // The table of a strand.
+    pub fn of(&self, forward: bool) -> &[u64; 256]
+        ensures { result.now ≡ word_table forward }
+    {
+        if forward {
+            return &self.forward;
+        }
+        &self.reverse
+    }
+
+    // Writes the letters of a stretch as a strand prints them, from index `at` of the buffer on.
+    pub fn put_stretch(
+        &self,
+        reference: &[u8],
+        forward: bool,
+        leftmost: usize,
+        bases: usize,
+        out: &mut [u8],
+        at: usize,
+    )
+        requires { (StretchFits reference.now leftmost bases)
+            × (at + bases ≤ length out.old) }
+        ensures { out.new
+            ≡ pasted out.old at
+            (stretch_letters reference.now forward leftmost bases) }
+    {
+        if forward {
+            put_strand::<true>(reference, leftmost, bases, self.of(true), out, at);
+            return;
+        }
+        put_strand::<false>(reference, leftmost, bases, self.of(false), out, at);
+    }
+}
+
+// The table of a strand.
 pub fn word_table(forward: bool) -> [u64; 256]
     ensures { result ≡ word_table forward }
 {
@@ -86,10 +137,8 @@ pub fn fill_words(forward: bool, table: &mut [u64])
     requires { length table.old ≡ 256 }
     ensures { table.new ≡ word_table forward }
 {
-    let mut byte: usize = 0;
-    while byte < 256 {
-        table[byte] = wide64(byte_word(forward, byte as u8));
-        byte += 1;
+    for (byte, word) in table.iter_mut().enumerate() {
+        *word = u64::from(byte_word(forward, byte as u8));
     }
 }
 
@@ -113,14 +162,72 @@ pub fn put_stretch(
         (stretch_letters reference.now forward leftmost bases) }
 {
     if forward {
-        put_stretch_forward(reference, leftmost, bases, forward_table, out, at);
+        put_strand::<true>(reference, leftmost, bases, forward_table, out, at);
         return;
     }
-    put_stretch_reverse(reference, leftmost, bases, reverse_table, out, at);
+    put_strand::<false>(reference, leftmost, bases, reverse_table, out, at);
 }
 
-// Writes the letters of a stretch on the forward strand: the first four, whole bytes after them,
-// and the last eight over what stands. `table` is the forward strand's.
+// Writes the letters of a stretch on one strand: the first four, whole bytes after them, and the
+// last eight over what stands. `table` is the strand's.
+pub fn put_strand<const FORWARD: bool>(
+    reference: &[u8],
+    leftmost: usize,
+    bases: usize,
+    table: &[u64; 256],
+    out: &mut [u8],
+    at: usize,
+)
+    requires { (StretchFits reference.now leftmost bases)
+        × (at + bases ≤ length out.old)
+        × (table.now ≡ word_table FORWARD) }
+    ensures { out.new
+        ≡ pasted out.old at
+        (stretch_letters reference.now FORWARD leftmost bases) }
+{
+    if bases < 8 {
+        put_letters(reference, FORWARD, leftmost, bases, out, at);
+        return;
+    }
+    let first = piece_leftmost(FORWARD, leftmost, bases, 0, 4);
+    put_four(reference, first, table, out, at);
+    let head = letters_before_byte(FORWARD, leftmost, bases);
+    let pairs = (bases - head) / 8;
+    let whole = piece_leftmost(FORWARD, leftmost, bases, head, 8 * pairs);
+    put_pairs::<FORWARD>(reference, whole / 4, pairs, table, out, at + head);
+    let tail = bases - 8;
+    let third = piece_leftmost(FORWARD, leftmost, bases, tail, 4);
+    put_four(reference, third, table, out, at + tail);
+    let last = piece_leftmost(FORWARD, leftmost, bases, tail + 4, 4);
+    put_four(reference, last, table, out, at + tail + 4);
+}
+
+// Writes the letters of pairs of whole bytes of the reference, the lowest of them `first`.
+fn put_pairs<const FORWARD: bool>(
+    reference: &[u8],
+    first: usize,
+    pairs: usize,
+    table: &[u64; 256],
+    out: &mut [u8],
+    at: usize,
+)
+    requires { (first + 2 * pairs ≤ length reference.now)
+        × (first + 2 * pairs ≤ max_reference_bases)
+        × (at + 8 * pairs ≤ length out.old)
+        × (table.now ≡ word_table FORWARD) }
+    ensures { out.new
+        ≡ pasted out.old at
+        (stretch_letters reference.now FORWARD (4 * first) (8 * pairs)) }
+{
+    for k in 0..pairs {
+        let one = stretch_index(FORWARD, first, 2 * pairs, 2 * k);
+        let other = stretch_index(FORWARD, first, 2 * pairs, 2 * k + 1);
+        let words = two_words(table, reference[one], reference[other]);
+        put_u64(out, at + 8 * k, words);
+    }
+}
+
+// Writes the letters of a stretch on the forward strand.
 pub fn put_stretch_forward(
     reference: &[u8],
     leftmost: usize,
@@ -136,100 +243,7 @@ pub fn put_stretch_forward(
         ≡ pasted out.old at
         (stretch_letters reference.now true leftmost bases) }
 {
-    if bases < 8 {
-        put_letters(reference, true, leftmost, bases, out, at);
-        return;
-    }
-    put_four(reference, leftmost, table, out, at);
-    let head = 4 - leftmost % 4;
-    let pairs = (bases - head) / 8;
-    put_pairs_forward(reference, leftmost / 4 + 1, pairs, table, out, at + head);
-    let tail = bases - 8;
-    put_four(reference, leftmost + tail, table, out, at + tail);
-    put_four(reference, leftmost + tail + 4, table, out, at + tail + 4);
-}
-
-// Writes the letters of a stretch on the reverse strand, which begin at its other end. `table` is
-// the reverse strand's.
-pub fn put_stretch_reverse(
-    reference: &[u8],
-    leftmost: usize,
-    bases: usize,
-    table: &[u64; 256],
-    out: &mut [u8],
-    at: usize,
-)
-    requires { (StretchFits reference.now leftmost bases)
-        × (at + bases ≤ length out.old)
-        × (table.now ≡ word_table false) }
-    ensures { out.new
-        ≡ pasted out.old at
-        (stretch_letters reference.now false leftmost bases) }
-{
-    if bases < 8 {
-        put_letters(reference, false, leftmost, bases, out, at);
-        return;
-    }
-    let end = leftmost + bases;
-    put_four(reference, end - 4, table, out, at);
-    let head = end % 4;
-    let pairs = (bases - head) / 8;
-    put_pairs_reverse(reference, end / 4, pairs, table, out, at + head);
-    let tail = bases - 8;
-    put_four(reference, leftmost + 4, table, out, at + tail);
-    put_four(reference, leftmost, table, out, at + tail + 4);
-}
-
-// Writes the letters of pairs of whole bytes of the reference, from byte `first` on.
-fn put_pairs_forward(
-    reference: &[u8],
-    first: usize,
-    pairs: usize,
-    table: &[u64; 256],
-    out: &mut [u8],
-    at: usize,
-)
-    requires { (first + 2 * pairs ≤ length reference.now)
-        × (at + 8 * pairs ≤ length out.old)
-        × (table.now ≡ word_table true) }
-    ensures { out.new
-        ≡ pasted out.old at
-        (stretch_letters reference.now true (4 * first) (8 * pairs)) }
-{
-    let mut k: usize = 0;
-    while k < pairs {
-        let byte = first + 2 * k;
-        let words = two_words(table, reference[byte], reference[byte + 1]);
-        put_u64(out, at + 8 * k, words);
-        k += 1;
-    }
-}
-
-// The same for the reverse strand: the bytes before byte `end`, the last first.
-fn put_pairs_reverse(
-    reference: &[u8],
-    end: usize,
-    pairs: usize,
-    table: &[u64; 256],
-    out: &mut [u8],
-    at: usize,
-)
-    requires { (2 * pairs ≤ end)
-        × (end ≤ length reference.now)
-        × (at + 8 * pairs ≤ length out.old)
-        × (table.now ≡ word_table false) }
-    ensures { out.new
-        ≡ pasted out.old at
-        (stretch_letters reference.now false (4 * end - 8 * pairs) (8 * pairs)) }
-{
-    let mut byte = end;
-    let mut k: usize = 0;
-    while k < pairs {
-        let words = two_words(table, reference[byte - 1], reference[byte - 2]);
-        put_u64(out, at + 8 * k, words);
-        byte -= 2;
-        k += 1;
-    }
+    put_strand::<true>(reference, leftmost, bases, table, out, at);
 }
 
 // Writes the letters of the four bases from an index on, on the strand whose table is lent.
@@ -250,7 +264,7 @@ pub fn two_words(table: &[u64; 256], first: u8, second: u8) -> u64
     ensures { result ≡ get_or table.now first 0
         + 4294967296 * get_or table.now second 0 }
 {
-    table[size8(first)] + 4294967296 * table[size8(second)]
+    table[usize::from(first)] + 4294967296 * table[usize::from(second)]
 }
 
 // The byte of the four bases from an index on: no branch, and no read past the last of them.
@@ -258,7 +272,7 @@ fn bases_byte(reference: &[u8], index: usize) -> usize
     requires { StretchFits reference.now index 4 }
     ensures { (result ≡ bases_byte reference.now index) × (result < 256) }
 {
-    let both = size8(reference[index / 4]) * 256 + size8(reference[(index + 3) / 4]);
+    let both = usize::from(reference[index / 4]) * 256 + usize::from(reference[(index + 3) / 4]);
     (both >> (8 - 2 * (index % 4))) % 256
 }
 
@@ -276,11 +290,9 @@ fn put_letters(
         ≡ pasted out.old at
         (stretch_letters reference.now forward leftmost bases) }
 {
-    let mut k: usize = 0;
-    while k < bases {
+    for k in 0..bases {
         let index = stretch_index(forward, leftmost, bases, k);
         out[at + k] = letter_of_code(strand_base(reference, forward, index));
-        k += 1;
     }
 }
 
@@ -293,6 +305,28 @@ pub fn stretch_index(forward: bool, leftmost: usize, bases: usize, k: usize) -> 
         return leftmost + k;
     }
     leftmost + (bases - 1 - k)
+}
+
+// The lowest reference index of the `count` letters of a stretch from letter k on.
+fn piece_leftmost(forward: bool, leftmost: usize, bases: usize, k: usize, count: usize) -> usize
+    requires { (k + count ≤ bases) × (leftmost + bases ≤ max_reference_bases) }
+    ensures { result ≡ leftmost + cond forward k (bases - (k + count)) }
+{
+    if forward {
+        return leftmost + k;
+    }
+    leftmost + (bases - (k + count))
+}
+
+// How many letters of a stretch come before the first whole byte of the reference.
+fn letters_before_byte(forward: bool, leftmost: usize, bases: usize) -> usize
+    requires { (4 ≤ bases) × (leftmost + bases ≤ max_reference_bases) }
+    ensures { (result ≤ 4) × ((leftmost + cond forward result (bases - result)) % 4 ≡ 0) }
+{
+    if forward {
+        return 4 - leftmost % 4;
+    }
+    (leftmost + bases) % 4
 }
 
 // The word of a byte of four bases: their letters, as a strand prints them.

@@ -20,11 +20,11 @@ module _ {goal : List ℕ} {end : ℕ} {out : List ℕ} {place : ℕ} (left : �
   pub words_room : place + 2 ≤ length out
   words_room = omega (arith, writing.room, length_varint16 left)
 
-  pub words_turn : (out' : List ℕ) → 32768 ≤ left → out' ≡ pasted out place (le_bytes 2 32768)
-      → Pasting goal end out' (place + 2) (varint16_bytes (left - 32768))
-  words_turn out' large written =
-      pasting_turn writing (le_bytes 2 32768) (varint16_bytes (left - 32768)) out' (place + 2)
-      (varint16-more left large) written
+  pub words_turn : (out' : List ℕ) (place' next : ℕ) → 32768 ≤ left → out' ≡ pasted out place (le_bytes 2 32768)
+      → place' ≡ place + 2 → next ≡ left - 32768 → Pasting goal end out' place' (varint16_bytes next)
+  words_turn out' place' next large written there less =
+      pasting_turn writing (le_bytes 2 32768) (varint16_bytes next) out' place'
+      (varint16-more left large ∙ ap (λ (m : ℕ). le_bytes 2 32768 ++ varint16_bytes m) (sym less)) written
       (omega (arith, length-le_bytes 2 32768))
 
   pub words_end : (out' : List ℕ) → left < 32768 → out' ≡ pasted out place (le_bytes 2 left)

@@ -7,7 +7,7 @@ ghost use Rattle.std.specs.Prelude.{◌≡◌, ◌+◌, ◌≤◌, length};
 ghost use Rattle.base.specs.Paste.{pasted};
 ghost use Rattle.dna.specs.Varint16.{varint16_bytes};
 
-use integers::{put_u16, size32};
+use integers::put_u16;
 
 // The word that says that another follows.
 pub const WORD_ESCAPE: u32 = 32768;
@@ -16,7 +16,7 @@ pub const WORD_ESCAPE: u32 = 32768;
 pub fn words_length(number: u32) -> usize
     ensures { (result ≡ length (varint16_bytes number)) × (result ≤ 262144) }
 {
-    (size32(number / WORD_ESCAPE) + 1) * 2
+    ((number / WORD_ESCAPE) as usize + 1) * 2
 }
 
 // Writes a number in words; the answer is the place after them. One or two words of 32768 need no
@@ -30,7 +30,7 @@ pub fn put_words(number: u32, out: &mut [u8], at: usize) -> usize
         put_u16(out, at, number as u16);
         return at + 2;
     }
-    let escapes = size32(number / WORD_ESCAPE);
+    let escapes = (number / WORD_ESCAPE) as usize;
     if 2 < escapes {
         return put_many_words(number, out, at);
     }
@@ -46,13 +46,10 @@ fn put_many_words(number: u32, out: &mut [u8], at: usize) -> usize
     ensures { (out.new ≡ pasted out.old at (varint16_bytes number))
         × (result ≡ at + length (varint16_bytes number)) }
 {
-    let mut left = number;
-    let mut place = at;
-    while WORD_ESCAPE <= left {
-        put_u16(out, place, WORD_ESCAPE as u16);
-        place += 2;
-        left -= WORD_ESCAPE;
+    let escapes = (number / WORD_ESCAPE) as usize;
+    for k in 0..escapes {
+        put_u16(out, at + 2 * k, WORD_ESCAPE as u16);
     }
-    put_u16(out, place, left as u16);
-    place + 2
+    put_u16(out, at + 2 * escapes, (number % WORD_ESCAPE) as u16);
+    at + 2 * escapes + 2
 }

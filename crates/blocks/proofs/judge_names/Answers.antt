@@ -10,19 +10,13 @@ use Rattle.names.specs.Judged.{judged}
 use Rattle.blocks.specs.Named.{names_judged}
 use Rattle.blocks.proofs.judge_names.Goals as goal
 
-pub names_stored-requires : goal.names_stored-requires
-names_stored-requires c =
-    accepted-table _ c.requires
-
-pub read_count-requires : goal.read_count-requires
-read_count-requires c =
-    accepted-table _ c.requires
+pub invariant_of-table : goal.invariant_of-table
+invariant_of-table c = record { there = accepted-table _ c.requires }
 
 pub judge-requires : goal.judge-requires
 judge-requires c =
     omega (
       arith,
-      c.size32.ensures.0,
       c.read_count.ensures.0,
       accepted-count _ c.requires,
     )
@@ -31,7 +25,7 @@ pub returns-then-names_stored : goal.returns-then-names_stored
 unfolding names_judged
 returns-then-names_stored c =
     c.judge.ensures
-    ∙ ap₂ (λ (n : ℕ) (s : List ℕ). judged n s) (c.size32.ensures.0 ∙ c.read_count.ensures.0)
+    ∙ ap₂ (λ (n : ℕ) (s : List ℕ). judged n s) (c.read_count.ensures.0)
     (c.section.ensures.0 ∙ accepted-section _ names_number c.requires)
     ∙ sym (cond_yes _ (sym c.names_stored.ensures ∙ c.if-names_stored.true) refl)
 

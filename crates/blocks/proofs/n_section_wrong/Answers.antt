@@ -9,13 +9,8 @@ use Rattle.format.specs.Lengths.{n_section_wrong}
 use Rattle.format.proofs.SectionLaws.{accepted-table, length-section_of}
 use Rattle.blocks.proofs.n_section_wrong.Goals as goal
 
-pub section_length-requires : goal.section_length-requires
-section_length-requires c =
-    accepted-table _ c.requires
-
-pub read_count-requires : goal.read_count-requires
-read_count-requires c =
-    accepted-table _ c.requires
+pub invariant_of-table : goal.invariant_of-table
+invariant_of-table c = record { there = accepted-table _ c.requires }
 
 pub returns : goal.returns
 unfolding n_section_wrong group_count
@@ -24,4 +19,4 @@ returns c =
     ap₂ (λ (size reads : ℕ). not (eqb size ((reads + 7) / 8)))
     (c.section_length.ensures.0
     ∙ sym (length-section_of input n_number c.requires))
-    (c.size32.ensures.0 ∙ c.read_count.ensures.0)
+    (c.read_count.ensures.0)

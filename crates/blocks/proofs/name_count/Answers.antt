@@ -5,18 +5,13 @@ use Rattle.format.proofs.SectionLaws.{accepted-table}
 use Rattle.blocks.specs.Named.{name_count}
 use Rattle.blocks.proofs.name_count.Goals as goal
 
-pub names_stored-requires : goal.names_stored-requires
-names_stored-requires c =
-    accepted-table _ c.requires
-
-pub read_count-requires : goal.read_count-requires
-read_count-requires c =
-    accepted-table _ c.requires
+pub invariant_of-table : goal.invariant_of-table
+invariant_of-table c = record { there = accepted-table _ c.requires }
 
 pub returns-then-names_stored : goal.returns-then-names_stored
 unfolding name_count
 returns-then-names_stored c =
-    c.size32.ensures.0 ∙ c.read_count.ensures.0
+    c.read_count.ensures.0
     ∙ sym (cond_yes 0 (sym c.names_stored.ensures ∙ c.if-names_stored.true) refl)
 
 pub returns : goal.returns

@@ -17,62 +17,57 @@ use Rattle.format.proofs.SectionLaws.{accepted-table, accepted-section, accepted
 use Rattle.blocks.specs.Named.{names_found, name_count}
 use Rattle.blocks.proofs.NamesLaws.{NamesKnown, names-known, found_stored, none_pasted}
 use Rattle.blocks.proofs.write_names.Goals as goal
-use Rattle.blocks.proofs.write_names.Goals.{After-size32}
+use Rattle.blocks.proofs.write_names.Goals.{After-read_count}
 
-stored : (c : After-size32)
+stored : (c : After-read_count)
     → flag_set (header_of c.args.input.now).flags names_flag ≡ true
 stored c =
     sym c.names_stored.ensures ∙ c.if-names_stored.true
 
-reads : (c : After-size32) → c.size32.result ≡ read_count (header_of c.args.input.now)
-reads c = c.size32.ensures.0 ∙ c.read_count.ensures.0
+reads : (c : After-read_count) → c.read_count.result ≡ read_count (header_of c.args.input.now)
+reads c = c.read_count.ensures.0
 
-section-is : (c : After-size32)
+section-is : (c : After-read_count)
     → c.section.result.now ≡ section_of c.args.input.now names_number
 section-is c =
     c.section.ensures.0 ∙ accepted-section _ names_number c.requires.accepted
 
-known : (c : After-size32) → NamesKnown c.args.input.now c.args.size
+known : (c : After-read_count) → NamesKnown c.args.input.now c.args.size
 known c = names-known _ _ c.requires.judged_as
 
 -- The names of the block are those that are read.
-names-are : (c : After-size32)
-    → names_read c.size32.result c.section.result.now
+names-are : (c : After-read_count)
+    → names_read c.read_count.result c.section.result.now
     ≡ names_found c.args.input.now
 names-are c =
     ap₂ (λ (n : ℕ) (s : List ℕ). names_read n s) (reads c) (section-is c)
     ∙ sym (found_stored c.args.input.now (stored c))
 
-count-stored : (c : After-size32)
+count-stored : (c : After-read_count)
     → name_count c.args.input.now ≡ read_count (header_of c.args.input.now)
 unfolding name_count
 count-stored c = cond_yes 0 (stored c) refl
 
-pub names_stored-requires : goal.names_stored-requires
-names_stored-requires c =
-    accepted-table _ c.requires.accepted
-
-pub read_count-requires : goal.read_count-requires
-read_count-requires c =
-    accepted-table _ c.requires.accepted
+pub invariant_of-table : goal.invariant_of-table
+invariant_of-table c = record { there = accepted-table _ c.requires.accepted }
 
 pub put_names-requires : goal.put_names-requires
 put_names-requires c =
-    let k = known (goal.at.put_names-requires c).After-size32 in
+    let k = known (goal.at.put_names-requires c).After-read_count in
     record {
       section_value = (
-        ap₂ (λ (n : ℕ) (s : List ℕ). names_invalid n s) (reads (goal.at.put_names-requires c).After-size32) (section-is (goal.at.put_names-requires c).After-size32)
-            ∙ k.valid (stored (goal.at.put_names-requires c).After-size32),
-        omega (arith, reads (goal.at.put_names-requires c).After-size32, accepted-count _ c.requires.accepted),
+        ap₂ (λ (n : ℕ) (s : List ℕ). names_invalid n s) (reads (goal.at.put_names-requires c).After-read_count) (section-is (goal.at.put_names-requires c).After-read_count)
+            ∙ k.valid (stored (goal.at.put_names-requires c).After-read_count),
+        omega (arith, reads (goal.at.put_names-requires c).After-read_count, accepted-count _ c.requires.accepted),
       );
       section_in_bounds = (
         omega (
           arith,
-          ap (λ (ns : List (List ℕ)). length (flatten ns)) (names-are (goal.at.put_names-requires c).After-size32),
+          ap (λ (ns : List (List ℕ)). length (flatten ns)) (names-are (goal.at.put_names-requires c).After-read_count),
           k.size,
           c.requires.names_fit,
         ),
-        omega (arith, reads (goal.at.put_names-requires c).After-size32, c.requires.ends_fit, count-stored (goal.at.put_names-requires c).After-size32),
+        omega (arith, reads (goal.at.put_names-requires c).After-read_count, c.requires.ends_fit, count-stored (goal.at.put_names-requires c).After-read_count),
       );
     }
 
@@ -80,9 +75,9 @@ pub returns-then-names_stored : goal.returns-then-names_stored
 returns-then-names_stored c =
     let a = c.args in (
       c.put_names.ensures.0
-          ∙ ap (λ (ns : List (List ℕ)). pasted a.names.now 0 (flatten ns)) (names-are (goal.at.returns-then-names_stored c).After-size32),
+          ∙ ap (λ (ns : List (List ℕ)). pasted a.names.now 0 (flatten ns)) (names-are (goal.at.returns-then-names_stored c).After-read_count),
       c.put_names.ensures.1
-          ∙ ap (λ (ns : List (List ℕ)). pasted a.ends.now 0 (places_from 0 (map length ns))) (names-are (goal.at.returns-then-names_stored c).After-size32),
+          ∙ ap (λ (ns : List (List ℕ)). pasted a.ends.now 0 (places_from 0 (map length ns))) (names-are (goal.at.returns-then-names_stored c).After-read_count),
     )
 
 pub returns-else-names_stored : goal.returns-else-names_stored

@@ -8,14 +8,14 @@ use Rattle.format.specs.Answered.{outcome_of_block}
 use Rattle.capi.specs.Slots.{slots, accepted_slots}
 use Rattle.capi.proofs.block_slots.Goals as goal
 
-pub returns-in-Accepted : goal.returns-in-Accepted
+pub returns-in-Ok : goal.returns-in-Ok
 unfolding outcome_of_block slots accepted_slots
-returns-in-Accepted c =
+returns-in-Ok c =
     c.accepted_slots.ensures
-    ∙ ap (λ (n : ℕ). 0 ∷ 0 ∷ 0 ∷ n ∷ c.in-Accepted.counts.reads ∷ c.in-Accepted.counts.letters ∷ c.in-Accepted.counts.entries ∷ c.in-Accepted.counts.differences ∷ c.in-Accepted.counts.top ∷ replicate 7 0) (sym (zero-add _))
-    ∙ sym (ap (λ o. slots (outcome_of_block o)) c.in-Accepted.is)
+    ∙ ap (λ (n : ℕ). 0 ∷ 0 ∷ 0 ∷ n ∷ c.in-Ok.block.counts.reads ∷ c.in-Ok.block.counts.letters ∷ c.in-Ok.block.counts.entries ∷ c.in-Ok.block.counts.differences ∷ c.in-Ok.block.counts.top ∷ replicate 7 0) (sym (zero-add _))
+    ∙ sym (ap (λ o. slots (outcome_of_block o)) c.in-Ok.is)
 
-pub returns-in-Refused : goal.returns-in-Refused
+pub returns-in-Err : goal.returns-in-Err
 unfolding outcome_of_block
-returns-in-Refused c =
-    c.refused_slots.ensures ∙ sym (ap (λ o. slots (outcome_of_block o)) c.in-Refused.is)
+returns-in-Err c =
+    c.refused_slots.ensures ∙ sym (ap (λ o. slots (outcome_of_block o)) c.in-Err.is)

@@ -8,15 +8,15 @@ use Rattle.format.specs.Answered.{outcome_of_encode}
 use Rattle.capi.specs.Slots.{slots}
 use Rattle.capi.proofs.encode_slots.Goals as goal
 
-pub returns-in-Written : goal.returns-in-Written
+pub returns-in-Ok : goal.returns-in-Ok
 unfolding outcome_of_encode slots
-returns-in-Written c =
+returns-in-Ok c =
     c.first_slots.ensures
     ∙ ap (λ (n : ℕ). 0 ∷ 0 ∷ 0 ∷ n ∷ 0 ∷ 0 ∷ 0 ∷ 0 ∷ replicate 8 0) (sym (zero-add _))
-    ∙ sym (ap (λ o. slots (outcome_of_encode o)) c.in-Written.is)
+    ∙ sym (ap (λ o. slots (outcome_of_encode o)) c.in-Ok.is)
 
-pub returns-in-Refused : goal.returns-in-Refused
+pub returns-in-Err : goal.returns-in-Err
 unfolding outcome_of_encode
-returns-in-Refused c =
+returns-in-Err c =
     c.refused_slots.ensures
-    ∙ sym (ap (λ o. slots (outcome_of_encode o)) c.in-Refused.is)
+    ∙ sym (ap (λ o. slots (outcome_of_encode o)) c.in-Err.is)

@@ -1,13 +1,14 @@
 -- `capi::ora_encode` meets its contract: the answer is that of the call, in slots. Assumes nothing.
 use mathlib.Core.Path.{ap, ◌∙◌}
-use Rattle.format.specs.Outcome.{Outcome}
+use Prim.Native.Nat.{ℕ}
+use mathlib.Core.List.{List}
+use lib.ListN.{get_or}
 use Rattle.capi.specs.Slots.{slots}
 use Rattle.capi.proofs.ora_encode.Goals as goal
 
 pub returns : goal.returns
+unfolding slots
 returns c =
-    let d = c.encode-outcome.ensures in (
-      c.encode_number.ensures ∙ ap (λ (o : Outcome). o.number) d.0,
-      c.encode_slots.ensures ∙ ap slots d.0,
-      d.1,
-    )
+    let d = c.encode-outcome.ensures in
+    let same = c.encode_slots.ensures ∙ ap slots d.0 in
+    (ap (λ (l : List ℕ). get_or l 0 0) same, same, d.1)

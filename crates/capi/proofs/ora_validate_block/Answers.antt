@@ -1,10 +1,14 @@
 -- `capi::ora_validate_block` meets its contract: the answer is that of the call, in slots. Assumes nothing.
 use mathlib.Core.Path.{ap, ◌∙◌}
-use Rattle.format.specs.Outcome.{Outcome}
+use Prim.Native.Nat.{ℕ}
+use mathlib.Core.List.{List}
+use lib.ListN.{get_or}
 use Rattle.capi.specs.Slots.{slots}
 use Rattle.capi.proofs.ora_validate_block.Goals as goal
 
 pub returns : goal.returns
+unfolding slots
 returns c =
-    let same = c.validate_block-outcome.ensures in
-    (c.block_number.ensures ∙ ap (λ (o : Outcome). o.number) same, c.block_slots.ensures ∙ ap slots same)
+    let d = c.validate_block-outcome.ensures in
+    let same = c.block_slots.ensures ∙ ap slots d in
+    (ap (λ (l : List ℕ). get_or l 0 0) same, same)

@@ -11,4 +11,4 @@ unfolding slots
 returns c =
     let a = c.args in
     c.first_slots.ensures
-    ∙ ap (λ (n : ℕ). n ∷ a.block ∷ a.read ∷ 0 ∷ 0 ∷ 0 ∷ 0 ∷ 0 ∷ replicate 8 0) c.wide64.ensures.0
+    ∙ ap (λ (n : ℕ). n ∷ a.block ∷ a.read ∷ 0 ∷ 0 ∷ 0 ∷ 0 ∷ 0 ∷ replicate 8 0) (c.from.ensures ∙ c.number.ensures)

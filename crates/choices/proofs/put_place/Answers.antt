@@ -1,43 +1,37 @@
 -- `choices::put_place` meets its contract. Assumes nothing.
-use Prim.Native.Nat.{◌+◌, ◌-◌}
+use mathlib.Core.Path.{◌∙◌}
+use Prim.Native.Nat.{ℕ, ◌-◌}
 use native.Mathlib.Omega.{arith}
-use Rattle.format.specs.RuleRecord.{Candidate}
-use Rattle.choices.specs.Choice.{candidate_of}
-use Rattle.choices.proofs.PlaceLaws.{lies-aligned, place_entries, put_same}
+use lib.ListN.{length}
+use lib.Dec.{eqb}
+use Rattle.mismatches.specs.Entries.{AlignedFits}
+use Rattle.choices.specs.Choice.{rule_candidate}
+use Rattle.choices.proofs.PlaceLaws.{fits-aligned, aligned-alone, entries-alone, place_entries}
+use Rattle.choices.proofs.PlaceLaws.{put_same}
 use Rattle.choices.proofs.put_place.Goals as goal
+use Rattle.choices.proofs.put_place.Goals.{After-from-2}
+
+-- The aligned letters.
+aligned : (c : After-from-2)
+    → AlignedFits c.args.read.now c.from-2.result
+    (length c.args.read.now - c.from.result - c.from-2.result)
+aligned c =
+    fits-aligned c.from-2.result (length c.args.read.now - c.from.result - c.from-2.result)
+    c.requires.0 (omega (arith, c.requires.1, c.from.ensures, c.from-2.ensures))
 
 pub put_entries-requires : goal.put_entries-requires
 put_entries-requires c =
-    let left = c.size8.ensures.0 in
-    let right = c.size8-2.ensures.0 in
-    let a = c.args in
-    let lies = c.requires.0 in
-    let fits = c.requires.2 in (
-      lies-aligned (a.from + c.size8-3.result)
-          (a.to - a.from
-          - (c.size8.result + c.size8-2.result))
-          lies (omega arith)
-          (omega (arith, lies.ordered, c.requires.1, left, right, c.size8-3.ensures.0)),
-      record {
-        inside = omega (arith, fits.inside, left, right, c.size32.ensures.0);
-        small = omega (arith, fits.small, left, right, c.size32.ensures.0);
-      },
-      c.requires.3,
-      c.requires.4,
-      c.requires.5,
-    )
+    (aligned-alone (aligned (goal.at.put_entries-requires c).After-from-2), c.requires.3)
 
 pub returns : goal.returns
 returns c =
-    let left = c.size8.ensures.0 in
-    let right = c.size8-2.ensures.0 in
     let a = c.args in
-    let lies = c.requires.0 in
-    let candidate : Candidate = candidate_of a.position a.strand a.left a.right in
+    let start : ℕ = c.from-2.result in
+    let count : ℕ = length a.read.now - c.from.result - start in
     put_same
-    (place_entries a.letters.now a.from a.to lies a.reference.now candidate
-    (omega (arith, c.requires.1)) (a.from + c.size8-3.result)
-    (a.to - a.from - (c.size8.result + c.size8-2.result))
-    c.size32.result (omega (arith, c.size8-3.ensures.0))
-    (omega (arith, left, right)) c.size32.ensures.0)
+    (entries-alone a.read.now start count (aligned (goal.at.returns c).After-from-2).inside
+    a.reference.now (eqb a.candidate.strand 1) a.candidate.position
+    ∙ place_entries a.read.now c.requires.0 a.reference.now (rule_candidate a.candidate)
+    (omega (arith, c.requires.1)) start count c.from-2.ensures
+    (omega (arith, c.from.ensures, c.from-2.ensures)))
     c.put_entries.ensures

@@ -1,118 +1,85 @@
-use mathlib.Core.Path.{refl}
-use Prim.Native.Nat.{ℕ, ◌<◌}
+use mathlib.Core.Path.{◌≡◌, refl, ap, ◌∙◌, subst}
+use Prim.Native.Nat.{ℕ, ◌+◌, ◌*◌, ◌<◌}
 use native.Mathlib.Omega.{arith}
 use lib.ListN.{length}
-use borrow.Author.Rules.{rules}
-use Rattle.format.specs.EncodeAnswer.{EncodeInput}
-use Rattle.dna_writer.specs.Lent.{lent_reads}
-use Rattle.dna_writer.specs.Section.{records_of}
-use Rattle.dna_writer.specs.Writer.{records_from}
-use Rattle.dna_writer.proofs.LentLaws.{WellLent, well_lent}
+use Rattle.base.specs.Paste.{pasted}
+use Rattle.dna_writer.specs.Section.{dna_bytes, n_bytes}
+use Rattle.dna_writer.specs.Reads.{input_of, records_lent, records_after}
 use Rattle.dna_writer.proofs.RecordSteps.{length_records, records_none}
-use Rattle.dna_writer.proofs.SectionSteps.{writing_start, writing_room}
+use Rattle.dna_writer.proofs.SectionSteps.{Writing, writing_start, writing_room}
 use Rattle.dna_writer.proofs.SectionSteps.{byte_inside, bits_inside, one_length}
-use Rattle.dna_writer.proofs.SectionSteps.{turn_length, writing_turn, writing_end}
+use Rattle.dna_writer.proofs.SectionSteps.{writing_turn, writing_end}
 use Rattle.dna_writer.proofs.put_groups.Goals as goal
-use Rattle.dna_writer.proofs.put_groups.Goals.{Start}
+use Rattle.dna_writer.proofs.put_groups.Goals.{In-loop-group}
 
--- What is lent has no fault.
-abbrev input : (c : Start) → EncodeInput
-input c =
+pub loop-group-init : goal.loop-group-init
+loop-group-init c =
     let a = c.args in
-    lent_reads a.letters.now a.ends.now a.positions.now a.strands.now a.lefts.now
-    a.rights.now
-
-well : (c : Start)
-    → WellLent c.args.bases c.args.reference.now (input c)
-well c = well_lent c.args.bases c.args.reference.now (input c) c.requires.rights_value.0
+    let start : a.n_at ≡ a.n_at + 0 = omega arith in
+    subst
+    (λ (byte : ℕ).
+    Writing
+    (pasted (pasted a.out.now a.at (dna_bytes (records_lent a.reads.now))) a.n_at
+    (n_bytes (records_lent a.reads.now)))
+    a.n_at a.out.now a.at byte (records_lent a.reads.now))
+    start
+    (writing_start a.out.now a.at a.n_at (records_lent a.reads.now) c.requires.1 c.requires.2)
 
 -- A read is left, and so is a record.
-left-some : (c : Start) (previous first : ℕ)
-    → first < length c.args.ends.now
-    → 0 < length (records_from c.args.bases c.args.reference.now (input c) previous first)
-left-some c previous first inside =
+inside : (c : In-loop-group) → 8 * c.loop-group.group < length c.args.reads.now.ends.now
+inside c = omega (arith, c.loop-group-test.true, c.div_ceil-group-end.ensures)
+
+some : (c : In-loop-group)
+    → 0 < length (records_after c.args.reads.now c.loop-group.previous (8 * c.loop-group.group))
+some c =
+    let reads = c.args.reads.now in
     omega (
       arith,
-      inside,
-      length_records c.args.bases c.args.reference.now (input c) previous first,
-    )
-
-pub loop-first-init : goal.loop-first-init
-loop-first-init c =
-    let a = c.args in (
-      writing_start a.out.now a.at a.n_at
-          (records_of a.bases a.reference.now (input (goal.at.loop-first-init c).Start)) c.requires.rights_bound.0
-          c.requires.rights_bound.1,
-      refl,
-      refl,
+      inside c,
+      length_records reads.bases reads.reference.now (input_of reads) c.loop-group.previous
+          (8 * c.loop-group.group),
     )
 
 pub put_group-after-requires : goal.put_group-after-requires
 put_group-after-requires c =
-    let l = c.loop-first in
-    let some = left-some (goal.at.put_group-after-requires c).Start l.previous l.first c.loop-first-test.true in
-    record {
-      rights_value = (
-        c.requires.rights_value.0,
-        c.requires.rights_value.1,
-        c.requires.rights_value.2,
-        omega (arith, c.requires.rights_value.3, l.invariant.2),
-      );
-      first_in_bounds = (c.loop-first-test.true, writing_room l.invariant.0 some);
-    }
-
-pub overflow_add-out : goal.overflow_add-out
-overflow_add-out c =
-    let l = c.loop-first in
-    let some = left-some (goal.at.overflow_add-out c).Start l.previous l.first c.loop-first-test.true in
-    let inside = bits_inside l.invariant.0 some in
-    search rules
+    let here = (goal.at.put_group-after-requires c).In-loop-group in (
+      inside here,
+      omega (arith, c.requires.0, c.loop-group.auto.list),
+      writing_room c.loop-group.invariant (some here),
+    )
 
 pub bounds-out-place : goal.bounds-out-place
 bounds-out-place c =
-    let l = c.loop-first in
-    let some = left-some (goal.at.bounds-out-place c).Start l.previous l.first c.loop-first-test.true in
+    let here = some (goal.at.bounds-out-place c).In-loop-group in
     omega (
       arith,
-      bits_inside l.invariant.0 some,
-      one_length l.invariant.0 some _ c.put_group-after.ensures.0,
+      bits_inside c.loop-group.invariant here,
+      one_length c.loop-group.invariant here _ c.put_group-after.ensures.0,
     )
 
-pub bounds-out-n_place : goal.bounds-out-n_place
-bounds-out-n_place c =
-    let l = c.loop-first in
-    let some = left-some (goal.at.bounds-out-n_place c).Start l.previous l.first c.loop-first-test.true in
+pub bounds-out-n_at : goal.bounds-out-n_at
+bounds-out-n_at c =
+    let here = some (goal.at.bounds-out-n_at c).In-loop-group in
     omega (
       arith,
-      byte_inside l.invariant.0 some,
-      one_length l.invariant.0 some _ c.put_group-after.ensures.0,
+      byte_inside c.loop-group.invariant here,
+      one_length c.loop-group.invariant here _ c.put_group-after.ensures.0,
     )
 
-pub overflow_add-n_place : goal.overflow_add-n_place
-overflow_add-n_place c =
-    let l = c.loop-first in
-    let some = left-some (goal.at.overflow_add-n_place c).Start l.previous l.first c.loop-first-test.true in
-    let inside = byte_inside l.invariant.0 some in
-    search rules
-
-pub overflow_add-first : goal.overflow_add-first
-overflow_add-first c =
-    omega (arith, (well (goal.at.overflow_add-first c).Start).few, c.loop-first-test.true)
-
-pub loop-first-preserved : goal.loop-first-preserved
-loop-first-preserved c =
-    let l = c.loop-first in
-    let some = left-some (goal.at.loop-first-preserved c).Start l.previous l.first c.loop-first-test.true in
-    let done = c.put_group-after.ensures in (
-      writing_turn l.invariant.0 some _ done.0 _ _ _ _ refl done.1 refl done.2,
-      omega (arith, turn_length l.invariant.0 some _ done.0 _ refl, l.invariant.1),
-      search rules,
-    )
+pub loop-group-preserved : goal.loop-group-preserved
+loop-group-preserved c =
+    let l = c.loop-group in
+    let reads = c.args.reads.now in
+    let done = c.put_group-after.ensures in
+    let more : 8 * l.group + 8 ≡ 8 * (l.group + 1) = omega arith in
+    writing_turn l.invariant (some (goal.at.loop-group-preserved c).In-loop-group) _ done.0 _ _ _ _
+    refl done.1 (omega arith)
+    (done.2 ∙ ap (λ (i : ℕ). records_after reads c.put_group-after.result.previous i) more)
 
 pub returns : goal.returns
 returns c =
-    let a = c.args in
-    let l = c.loop-first in
-    writing_end l.invariant.0
-    (records_none a.bases a.reference.now (input (goal.at.returns c).Start) l.previous l.first
-    c.loop-first-test.false)
+    let l = c.loop-group in
+    let reads = c.args.reads.now in
+    writing_end l.invariant
+    (records_none reads.bases reads.reference.now (input_of reads) l.previous (8 * l.group)
+    (omega (arith, c.loop-group-test.false, c.div_ceil-group-end.ensures)))

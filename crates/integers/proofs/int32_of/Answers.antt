@@ -1,22 +1,11 @@
--- `integers::int32_of` meets its contract. Below 2 ^ 31 the number is itself; from there on it is
--- the complement of its distance to 2 ^ 32 - 1. Assumes nothing.
-use mathlib.Core.Path.{◌≡◌, ap}
-use Prim.Native.Nat.{ℕ, ◌-◌, ◌<◌, ◌^◌}
-use native.Mathlib.Omega.{arith}
-use lib.IntN.{negsuc}
-use borrow.Author.Tests.{lt-ltb, le-ltb}
-use Rattle.base.specs.Numbers.{signed}
+-- `integers::int32_of` meets its contract: the library's cast is two's complement. Assumes nothing.
+use mathlib.Core.Path.{◌∙◌}
+use mir.Syntax.{w32}
+use mir.ValLaws.{to_z-of_z}
+use Rattle.integers.proofs.LibraryNumbers.{signed_four}
 use Rattle.integers.proofs.int32_of.Goals as goal
 
-pub returns-then-x-lt2147483648 : goal.returns-then-x-lt2147483648
-unfolding signed
-returns-then-x-lt2147483648 c =
-    simp (lt-ltb _ _ c.if-x-lt2147483648.true)
-
-pub returns-else-x-lt2147483648 : goal.returns-else-x-lt2147483648
-unfolding signed
-returns-else-x-lt2147483648 c =
-    let x : ℕ = c.args.x in
-    let f : x < 2 ^ 32 = c.ranges.x.fits in
-    let e : 4294967295 - (4294967295 - x) ≡ x = omega arith in
-    rw e (simp (le-ltb _ _ c.if-x-lt2147483648.false) (ap negsuc (omega arith)))
+pub returns : goal.returns
+returns c =
+    to_z-of_z w32 c.cast_signed.result (record { sfits = c.cast_signed.type_inv })
+    ∙ c.cast_signed.ensures ∙ signed_four c.args.x

@@ -1,13 +1,13 @@
--- `integers::put_u32` meets its contract: two bytes and two are four. Assumes nothing.
-use mathlib.Core.Path.{refl}
+-- `integers::put_u32` meets its contract: the library's bytes of a number are copied. Assumes nothing.
+use mathlib.Core.Path.{◌∙◌}
 use native.Mathlib.Omega.{arith}
-use Rattle.base.proofs.NumberLaws.{pasted-le_bytes}
+use Rattle.base.proofs.NumberLaws.{length-le_bytes}
+use Rattle.base.proofs.SliceLaws.{pasted_mid}
+use Rattle.integers.proofs.LibraryNumbers.{to_four}
 use Rattle.integers.proofs.put_u32.Goals as goal
 
 pub returns : goal.returns
 returns c =
     let a = c.args in
-    let low = c.put_u16 in
-    let high = c.put_u16-2 in
-    pasted-le_bytes 2 2 a.out.now low.new.out _ a.at _ a.x _ _
-    (omega arith) refl refl refl low.ensures high.ensures
+    pasted_mid a.at _ a.out.now _ (c.copy_from_slice.ensures.after ∙ c.to_le_bytes.ensures ∙ to_four a.x)
+    (omega (arith, length-le_bytes 4 a.x))

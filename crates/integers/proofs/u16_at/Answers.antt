@@ -1,9 +1,8 @@
--- `integers::u16_at` meets its contract: the definition unfolds to the two bytes. Assumes nothing.
-use native.Mathlib.Omega.{arith}
-use Rattle.base.specs.Numbers.{le}
+-- `integers::u16_at` meets its contract: the library's number is that of the bytes. Assumes nothing.
+use mathlib.Core.Path.{◌∙◌}
+use Rattle.integers.proofs.LibraryNumbers.{from_two}
 use Rattle.integers.proofs.u16_at.Goals as goal
 
 pub returns : goal.returns
-unfolding le
 returns c =
-    omega arith
+    c.from_le_bytes.ensures ∙ from_two c.args.s.now c.bytes_at.result c.args.at c.bytes_at.ensures

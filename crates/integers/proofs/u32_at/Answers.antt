@@ -1,8 +1,8 @@
--- `integers::u32_at` meets its contract: four bytes are two and two. Assumes nothing.
-use native.Mathlib.Omega.{arith}
-use Rattle.base.proofs.NumberLaws.{le-add}
+-- `integers::u32_at` meets its contract: the library's number is that of the bytes. Assumes nothing.
+use mathlib.Core.Path.{◌∙◌}
+use Rattle.integers.proofs.LibraryNumbers.{from_four}
 use Rattle.integers.proofs.u32_at.Goals as goal
 
 pub returns : goal.returns
 returns c =
-    rw (le-add 2 2) (omega arith)
+    c.from_le_bytes.ensures ∙ from_four c.args.s.now c.bytes_at.result c.args.at c.bytes_at.ensures

@@ -3,8 +3,8 @@
 use Rattle.lengths.proofs.FixedLaws.{product-fits}
 use mathlib.Core.Path.{sym, ap₂, ◌∙◌}
 use Prim.Native.Nat.{ℕ, ◌*◌}
+use Rattle.std.specs.Prelude.{Some}
 use native.Mathlib.Omega.{arith}
-use Rattle.lengths.specs.declared.LengthsSum.TheVariants as sums
 use Rattle.lengths.proofs.FixedLaws.{length-zero, length_large, length-valid, fixed_filled}
 use Rattle.lengths.proofs.FixedLaws.{fixed_unread, fixed_invalid, fixed_valid}
 use Rattle.lengths.proofs.fixed_sum.Goals as goal
@@ -37,16 +37,12 @@ returns-then-each-gt-MAX_READ_LENGTH c =
 
 pub overflow_mul-result : goal.overflow_mul-result
 overflow_mul-result c =
-    record {
-      fits =
-          product-fits c.wide64.result c.wide64-2.result
-          c.wide64.ensures.1 (omega (arith, c.wide64-2.ensures.0));
-    }
+    record { fits = product-fits c.from.result c.from-2.result (omega arith) (omega arith) }
 
 pub returns : goal.returns
 returns c =
     let a = c.args in
-    ap₂ (λ (n x : ℕ). sums.Found (n * x)) c.wide64.ensures.0 c.wide64-2.ensures.0
+    ap₂ (λ (n x : ℕ). Some (n * x)) c.from.ensures c.from-2.ensures
     ∙ sym
     (fixed_valid a.each a.reads a.section.now c.if-section-gt0.false (omega arith)
     (length-valid _ c.if-each-eq0.false c.if-each-gt-MAX_READ_LENGTH.false))

@@ -7,6 +7,7 @@ use mir.Val.{to_z, of_z}
 use mir.ValLaws.{to_z-of_z}
 use mir.Syntax.{w32}
 use Rattle.base.specs.Numbers.{non_negative}
+use Rattle.dna.specs.Refused.{number_of, refusal_number}
 use Rattle.dna.specs.SizesAt.{lengths_given}
 use Rattle.lengths.specs.Given.{lengths_found, lengths_sum}
 use Rattle.lengths.proofs.GivenLaws.{fault-lengths, fault-none, fault-size}
@@ -28,18 +29,21 @@ given c =
     ∙ sym c.lengths_sum.ensures
 
 pub returns-in_default : goal.returns-in_default
+unfolding number_of refusal_number
 returns-in_default c =
     let a = c.args in
     sym (fault-lengths a.raw _ (given (goal.at.returns-in_default c).After-lengths_sum ∙ c.in_default.is))
 
-pub returns-then-wide64-sum : goal.returns-then-wide64-sum
-returns-then-wide64-sum c =
+pub returns-then-from-sum : goal.returns-then-from-sum
+unfolding number_of refusal_number
+returns-then-from-sum c =
     let a = c.args in
-    sym (fault-none a.raw _ _ (given (goal.at.returns-then-wide64-sum c).After-lengths_sum ∙ c.in-Found.is)
-    (sym c.wide64.ensures.0 ∙ c.if-wide64-sum.true))
+    sym (fault-none a.raw _ _ (given (goal.at.returns-then-from-sum c).After-lengths_sum ∙ c.in-Some.is)
+    (sym c.from.ensures ∙ c.if-from-sum.true))
 
 pub returns : goal.returns
+unfolding number_of refusal_number
 returns c =
     let a = c.args in
-    sym (fault-size a.raw _ _ (given (goal.at.returns c).After-lengths_sum ∙ c.in-Found.is)
-    (λ e. c.if-wide64-sum.false (c.wide64.ensures.0 ∙ e)))
+    sym (fault-size a.raw _ _ (given (goal.at.returns c).After-lengths_sum ∙ c.in-Some.is)
+    (λ e. c.if-from-sum.false (c.from.ensures ∙ e)))

@@ -10,20 +10,22 @@ returns-then-cursor c =
     c.length_or_refused.ensures
     ∙ sym (step_fixed a.section.now a.cursor c.if-cursor.true)
 
-pub returns-in_default : goal.returns-in_default
-returns-in_default c =
+pub returns-in_err-flagged : goal.returns-in_err-flagged
+returns-in_err-flagged c =
     let a = c.args in
-    sym
+    c.from_residual.ensures
+    ∙ sym
     (step_unflagged a.section.now a.cursor c.if-cursor.false
-    (sym c.take_flags.ensures ∙ c.in_default.is))
+    (sym c.take_flags.ensures ∙ c.in_err-flagged.was))
 
-pub returns-in_default-read_size : goal.returns-in_default-read_size
-returns-in_default-read_size c =
+pub returns-in_err-size : goal.returns-in_err-size
+returns-in_err-size c =
     let a = c.args in
-    sym
-    (step_unread a.section.now a.cursor c.in-Found.flagged
-    c.if-cursor.false (sym c.take_flags.ensures ∙ c.in-Found.is)
-    (sym c.read_size.ensures ∙ c.in_default-read_size.is))
+    c.from_residual-in_err-size.ensures
+    ∙ sym
+    (step_unread a.section.now a.cursor c.in_ok-flagged.flagged
+    c.if-cursor.false (sym c.take_flags.ensures ∙ c.in_ok-flagged.was)
+    (sym c.read_size.ensures ∙ c.in_err-size.was))
 
 pub returns : goal.returns
 unfolding cursor_after
@@ -31,6 +33,6 @@ returns c =
     let a = c.args in
     c.length_or_refused-2.ensures
     ∙ sym
-    (step_read a.section.now a.cursor c.in-Found.flagged _ _
-    c.if-cursor.false (sym c.take_flags.ensures ∙ c.in-Found.is)
-    (sym c.read_size.ensures ∙ c.in-Found-read_size.is))
+    (step_read a.section.now a.cursor c.in_ok-flagged.flagged _ _
+    c.if-cursor.false (sym c.take_flags.ensures ∙ c.in_ok-flagged.was)
+    (sym c.read_size.ensures ∙ c.in_ok-size.was))

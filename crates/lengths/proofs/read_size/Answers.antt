@@ -1,7 +1,8 @@
 -- `lengths::read_size` meets its contract: one law for each pair of bits. Assumes nothing.
 use mathlib.Core.Path.{sym, ap, ◌∙◌}
 use Prim.Native.Nat.{ℕ, ◌+◌}
-use Rattle.lengths.specs.declared.SizeRead.TheVariants as sizes
+use Rattle.std.specs.Prelude.{Some}
+use Rattle.lengths.specs.Cursor.{SizeRead}
 use Rattle.lengths.proofs.StepLaws.{size_both, size_same, size_words, size_cut, size-byte}
 use Rattle.lengths.proofs.read_size.Goals as goal
 
@@ -30,7 +31,7 @@ returns-then-section-at c =
 pub returns : goal.returns
 returns c =
     let a = c.args in
-    ap (λ (n : ℕ). sizes.Found n (a.cursor.at + 1))
-    (c.wide32.ensures.0 ∙ c.wide16.ensures.0)
+    let read : ℕ → SizeRead = λ size. Some (size, a.cursor.at + 1) in
+    ap read c.from.ensures
     ∙ sym (size-byte a.section.now a.cursor c.if-cursor-ge128.false c.if-cursor-lt128.false
     c.if-section-at.false)

@@ -33,8 +33,8 @@ returns-then-word-gt-WORD_ESCAPE c =
     let a = c.args in
     sym
     (l.invariant.2
-    ∙ words_large a.section.now l.at l.sum c.wide32-word.result
-    (c.wide32-word.ensures.0 ∙ c.u16_at.ensures) c.if-word-gt-WORD_ESCAPE.true)
+    ∙ words_large a.section.now l.at l.sum c.from-word.result
+    (c.from-word.ensures ∙ c.u16_at.ensures) c.if-word-gt-WORD_ESCAPE.true)
 
 pub returns-then-sum-word-gt-MAX_READ_LENGTH : goal.returns-then-sum-word-gt-MAX_READ_LENGTH
 returns-then-sum-word-gt-MAX_READ_LENGTH c =
@@ -42,8 +42,8 @@ returns-then-sum-word-gt-MAX_READ_LENGTH c =
     let a = c.args in
     sym
     (l.invariant.2
-    ∙ words_outside a.section.now l.at l.sum c.wide32-word.result
-    (c.wide32-word.ensures.0 ∙ c.u16_at.ensures) c.if-sum-word-gt-MAX_READ_LENGTH.true)
+    ∙ words_outside a.section.now l.at l.sum c.from-word.result
+    (c.from-word.ensures ∙ c.u16_at.ensures) c.if-sum-word-gt-MAX_READ_LENGTH.true)
 
 pub overflow_add-result-then-word-lt-WORD_ESCAPE : goal.overflow_add-result-then-word-lt-WORD_ESCAPE
 overflow_add-result-then-word-lt-WORD_ESCAPE c =
@@ -56,8 +56,8 @@ returns-then-word-lt-WORD_ESCAPE c =
     let a = c.args in
     sym
     (l.invariant.2
-    ∙ words_last a.section.now l.at l.sum c.wide32-word.result
-    (c.wide32-word.ensures.0 ∙ c.u16_at.ensures) (room (goal.at.returns-then-word-lt-WORD_ESCAPE c).In-loop-word) c.if-word-lt-WORD_ESCAPE.true
+    ∙ words_last a.section.now l.at l.sum c.from-word.result
+    (c.from-word.ensures ∙ c.u16_at.ensures) (room (goal.at.returns-then-word-lt-WORD_ESCAPE c).In-loop-word) c.if-word-lt-WORD_ESCAPE.true
     c.if-sum-word-gt-MAX_READ_LENGTH.false)
 
 pub overflow_add-at : goal.overflow_add-at
@@ -77,8 +77,8 @@ loop-word-preserved c =
       omega arith,
       omega arith,
       l.invariant.2
-          ∙ words_more a.section.now l.at l.sum c.wide32-word.result
-          (c.wide32-word.ensures.0 ∙ c.u16_at.ensures) (room (goal.at.loop-word-preserved c).In-loop-word) c.if-word-lt-WORD_ESCAPE.false
+          ∙ words_more a.section.now l.at l.sum c.from-word.result
+          (c.from-word.ensures ∙ c.u16_at.ensures) (room (goal.at.loop-word-preserved c).In-loop-word) c.if-word-lt-WORD_ESCAPE.false
           c.if-word-gt-WORD_ESCAPE.false c.if-sum-word-gt-MAX_READ_LENGTH.false,
     )
 

@@ -8,13 +8,8 @@ use Rattle.lengths.specs.Cursor.{lengths_left}
 use Rattle.lengths.proofs.NextLaws.{sum_left}
 use Rattle.lengths.proofs.section_sum.Given as goal
 
-abbrev pub invariant-loop-i : goal.invariant-loop-i
-invariant-loop-i l =
-    (l.i ≤ l.reads)
-    × (l.sum ≤ 100000 * l.i)
+abbrev pub invariant-loop-read : goal.invariant-loop-read
+invariant-loop-read l =
+    (l.sum ≤ 100000 * l._read)
     × (lengths_sum (lengths_found (sizes_answer l.reads l.section)) ≡ sum_left l.sum
-    (lengths_left (l.reads - l.i) l.section l.cursor))
-
-abbrev pub decreases-loop-i : goal.decreases-loop-i
-decreases-loop-i l =
-    l.reads - l.i
+    (lengths_left (l.reads - l._read) l.section l.cursor))

@@ -1,6 +1,5 @@
 -- `letter_packing::end_code` meets its contract. Assumes nothing.
 use mathlib.Core.Path.{refl, sym, ◌∙◌}
-use Prim.Native.Nat.{◌+◌, ◌-◌}
 use native.Mathlib.Omega.{arith}
 use Rattle.letter_packing.specs.Read.{base_in}
 use Rattle.letter_packing.proofs.ReadLaws.{ends_left, ends_right, ends_past}
@@ -9,15 +8,9 @@ use Rattle.letter_packing.proofs.end_code.Goals as goal
 pub returns-then-left-right : goal.returns-then-left-right
 returns-then-left-right c =
     let a = c.args in (
-      sym (ends_past a.letters.now a.from a.to a.left a.right (omega arith)
-          (omega arith) (omega arith) a.k c.if-left-right.true),
+      sym (ends_past a.read.now a.left a.right c.requires.1 a.k c.if-left-right.true),
       omega arith,
     )
-
-pub base_of_letter-requires : goal.base_of_letter-requires
-base_of_letter-requires c =
-    let a = c.args in
-    c.requires.0.known (a.from + a.k) (omega arith) (omega arith)
 
 pub returns-then-k-left : goal.returns-then-k-left
 unfolding base_in
@@ -25,16 +18,9 @@ returns-then-k-left c =
     let a = c.args in (
       c.base_of_letter.ensures.0
           ∙ sym
-          (ends_left a.letters.now a.from a.to a.left a.right (omega arith)
-          (omega arith) (omega arith) a.k c.if-k-left.true),
+          (ends_left a.read.now a.left a.right c.requires.1 a.k c.if-k-left.true),
       c.base_of_letter.ensures.1,
     )
-
-pub base_of_letter-requires-2 : goal.base_of_letter-requires-2
-base_of_letter-requires-2 c =
-    let a = c.args in
-    c.requires.0.known (a.to - (a.left + a.right) + a.k)
-    (omega arith) (omega arith)
 
 pub returns : goal.returns
 unfolding base_in
@@ -42,8 +28,7 @@ returns c =
     let a = c.args in (
       c.base_of_letter-2.ensures.0
           ∙ sym
-          (ends_right a.letters.now a.from a.to a.left a.right (omega arith)
-          (omega arith) (omega arith) a.k _ c.if-k-left.false
+          (ends_right a.read.now a.left a.right c.requires.1 a.k _ c.if-k-left.false
           c.if-left-right.false refl),
       c.base_of_letter-2.ensures.1,
     )

@@ -8,10 +8,10 @@ pub returns : goal.returns
 unfolding byte_of
 returns c =
     let a = c.args in
-    simp add-zero
-    (omega (
+    let e = c.byte.ensures in
+    simp add-zero (omega (
       arith,
-      c.byte2.ensures,
+      e,
       c.end_code.ensures.0,
       c.end_code-2.ensures.0,
       c.end_code-3.ensures.0,

@@ -3,12 +3,6 @@ use native.Mathlib.Omega.{arith}
 use Rattle.format.specs.RuleEntries.{filler_count}
 use Rattle.mismatches.proofs.filler_count.Goals as goal
 
-pub returns-then-gap-eq0 : goal.returns-then-gap-eq0
-unfolding filler_count
-returns-then-gap-eq0 c =
-    omega arith
-
 pub returns : goal.returns
 unfolding filler_count
-returns c =
-    omega arith
+returns c = omega (arith, c.saturating_sub.ensures)

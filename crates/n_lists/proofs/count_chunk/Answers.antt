@@ -1,31 +1,27 @@
+use mathlib.Core.Path.{◌≡◌, ap, ◌∙◌}
+use Prim.Native.Nat.{ℕ}
 use native.Mathlib.Omega.{arith}
-use Rattle.n_lists.proofs.NPlaceLaws.{count_none, count_cons, count_below}
+use lib.ListN.{length, take}
+use lib.Seq.{take-length}
+use Rattle.n_lists.specs.NPlaces.{n_count}
+use Rattle.n_lists.proofs.CountLaws.{count_more, count_small}
 use Rattle.n_lists.proofs.count_chunk.Goals as goal
 
-pub loop-i-init : goal.loop-i-init
-loop-i-init c =
-    (omega arith, omega arith, omega arith)
-
-pub overflow_add-count : goal.overflow_add-count
-overflow_add-count c =
-    let a = c.args in
+pub loop-letter-preserved : goal.loop-letter-preserved
+loop-letter-preserved c =
+    let l = c.loop-letter in
     omega (
       arith,
-      count_cons a.letters.now c.loop-i.i a.to
-          c.one_if_n-count.result c.loop-i-test.true c.one_if_n-count.ensures,
-      count_below a.letters.now a.from a.to,
+      l.invariant,
+      count_more c.args.chunk.now l.letter-index _ c.loop-letter-test.true c.from-count.ensures,
     )
-
-pub loop-i-preserved : goal.loop-i-preserved
-loop-i-preserved c =
-    let a = c.args in
-    let more = count_cons a.letters.now c.loop-i.i a.to
-    c.one_if_n-count.result c.loop-i-test.true c.one_if_n-count.ensures in
-    (omega arith, omega arith, omega arith)
 
 pub returns : goal.returns
 returns c =
-    let a = c.args in
-    let none = count_none a.letters.now c.loop-i.i a.to c.loop-i-test.false in
-    let below = count_below a.letters.now a.from a.to in
-    (omega arith, omega arith)
+    let l = c.loop-letter in
+    let chunk = c.args.chunk.now in
+    let all : l.letter-index ≡ length chunk = omega arith in
+    let small = count_small chunk l.letter-index (omega arith) in
+    let whole : n_count (take l.letter-index chunk) ≡ n_count chunk =
+    ap (λ (n : ℕ). n_count (take n chunk)) all ∙ ap n_count (take-length chunk) in
+    (l.invariant ∙ whole, omega (arith, small, l.invariant, c.requires))

@@ -1,15 +1,9 @@
 -- `n_lists::count_n` meets its contract. Assumes nothing.
-use mathlib.Core.Path.{◌≡◌}
-use Prim.Native.Nat.{◌+◌, ◌-◌, ◌≤◌}
-use lib.ListN.{length}
-use Rattle.n_lists.specs.NPlaces.{n_places}
+use Rattle.std.proofs.Common.{◌≡◌, ◌+◌}
+use Rattle.n_lists.specs.NPlaces.{n_count}
 use Rattle.n_lists.proofs.count_n.Given as goal
 
-abbrev pub invariant-loop-i : goal.invariant-loop-i
-invariant-loop-i l =
-    (l.from ≤ l.i) × (l.i ≤ l.to)
-    × (l.count + length (n_places l.letters l.i l.to) ≡ length (n_places l.letters l.from l.to))
-
-abbrev pub decreases-loop-i : goal.decreases-loop-i
-decreases-loop-i l =
-    l.to - l.i
+-- What is counted, and what the chunks that are left hold.
+abbrev pub invariant-loop-chunk : goal.invariant-loop-chunk
+invariant-loop-chunk l =
+    l.count + n_count l.chunk-iterator.rest.now ≡ n_count l.read

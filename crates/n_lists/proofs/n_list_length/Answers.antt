@@ -3,9 +3,9 @@ use native.Mathlib.Omega.{arith}
 use Rattle.n_lists.proofs.NListLaws.{short-list}
 use Rattle.n_lists.proofs.n_list_length.Goals as goal
 
-pub returns-then-to-from : goal.returns-then-to-from
-returns-then-to-from c =
+pub returns-then-read : goal.returns-then-read
+returns-then-read c =
     let a = c.args in (
-      short-list a.letters.now a.from a.to a.count c.requires c.if-to-from.true,
+      short-list a.read.now a.count c.requires c.if-read.true,
       omega (arith, c.requires.few),
     )

@@ -1,13 +1,10 @@
 -- `n_lists::next_n` meets its contract. Assumes nothing.
 use mathlib.Core.Path.{◌≡◌}
-use Prim.Native.Nat.{◌-◌, ◌≤◌}
+use Prim.Native.Nat.{◌≤◌}
+use lib.ListN.{length}
 use Rattle.n_lists.specs.NPlaces.{n_places}
 use Rattle.n_lists.proofs.next_n.Given as goal
 
 abbrev pub invariant-loop-i : goal.invariant-loop-i
 invariant-loop-i l =
-    (l.i ≤ l.to) × (n_places l.letters l.from l.to ≡ n_places l.letters l.i l.to)
-
-abbrev pub decreases-loop-i : goal.decreases-loop-i
-decreases-loop-i l =
-    l.to - l.i
+    (l.from ≤ l.i) × (l.i ≤ length l.read) × (n_places l.read l.from (length l.read) ≡ n_places l.read l.i (length l.read))

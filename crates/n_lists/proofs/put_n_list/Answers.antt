@@ -1,7 +1,7 @@
-use mathlib.Core.Path.{refl, ap, ◌∙◌}
+use mathlib.Core.Path.{refl, ap}
 use Prim.Native.Nat.{◌+◌}
 use native.Mathlib.Omega.{arith}
-use lib.ListN.{length, length-set}
+use lib.ListN.{length}
 use borrow.Author.Rules.{rules}
 use Rattle.base.proofs.PastingLaws.{pasting-start}
 use Rattle.n_lists.specs.NPlaces.{n_places}
@@ -14,32 +14,19 @@ use Rattle.n_lists.proofs.put_n_list.Goals.{After-next_n-place}
 
 -- The next letter N is there, since not all are written.
 first : (c : After-next_n-place)
-    → First c.args.letters.now
-    c.loop-k.i c.args.to
+    → First c.args.read.now
+    c.loop-k.i (length c.args.read.now)
     c.next_n-place.result
 first c =
     places_first _ c.loop-k.i _ c.next_n-place.result (omega arith)
-    c.next_n-place.ensures
-
-pub overflow_cast-out : goal.overflow_cast-out
-overflow_cast-out c =
-    omega (arith, c.requires.ncounted.few)
+    c.next_n-place.ensures.0
 
 pub bounds-out-at : goal.bounds-out-at
 bounds-out-at c =
     let a = c.args in
     omega (
       arith,
-      length_list a.letters.now a.from a.to a.count
-          c.requires.ncounted,
-    )
-
-pub overflow_add-next : goal.overflow_add-next
-overflow_add-next c =
-    let a = c.args in
-    omega (
-      arith,
-      length_list a.letters.now a.from a.to a.count
+      length_list a.read.now a.count
           c.requires.ncounted,
     )
 
@@ -49,68 +36,39 @@ loop-k-init c =
     let fits = c.requires.ncounted in (
       omega arith,
       omega arith,
-      fits.lies.ordered,
-      omega (arith, count_places a.letters.now a.from a.to a.count fits),
-      pasting-start _ (a.at + 1) (step_bytes a.from (n_places a.letters.now a.from
-          a.to))
-          (list_room a.letters.now a.from a.to a.count fits a.out.now a.at
-          c.requires.to_in_bounds),
+      omega (arith, count_places a.read.now a.count fits),
+      pasting-start _ (a.at + 1) (step_bytes 0 (n_places a.read.now 0 (length a.read.now)))
+          (list_room a.read.now a.count fits a.out.now a.at
+          c.requires.read_in_bounds),
       refl,
-    )
-
-pub next_n-place-requires : goal.next_n-place-requires
-next_n-place-requires c =
-    (c.loop-k.invariant.2, c.requires.ncounted.lies.inside)
-
-pub overflow_sub-place : goal.overflow_sub-place
-overflow_sub-place c =
-    omega (arith, (first (goal.at.overflow_sub-place c).After-next_n-place).low)
-
-pub overflow_cast-place : goal.overflow_cast-place
-overflow_cast-place c =
-    omega (
-      arith,
-      (first (goal.at.overflow_cast-place c).After-next_n-place).low,
-      (first (goal.at.overflow_cast-place c).After-next_n-place).high,
-      c.requires.ncounted.lies.sized,
     )
 
 pub put_words-next-requires : goal.put_words-next-requires
 put_words-next-requires c =
     let l = c.loop-k in
-    offset_room c.args.letters.now l.before
-    l.i c.args.to l.invariant.4
+    offset_room c.args.read.now l.before
+    l.i (length c.args.read.now) l.invariant.3
     c.next_n-place.result (first (goal.at.put_words-next-requires c).After-next_n-place)
-
-pub overflow_add-i : goal.overflow_add-i
-overflow_add-i c =
-    omega (arith, (first (goal.at.overflow_add-i c).After-next_n-place).high, c.requires.ncounted.lies.inside)
 
 pub loop-k-preserved : goal.loop-k-preserved
 loop-k-preserved c =
     let l = c.loop-k in
     let a = c.args in
     let next = first (goal.at.loop-k-preserved c).After-next_n-place in (
-      omega (arith, next.low),
       omega arith,
       omega (arith, next.high),
       omega (arith, ap length next.splits),
-      offset_turn a.letters.now l.before l.i a.to l.invariant.4 c.next_n-place.result next
+      offset_turn a.read.now l.before l.i (length a.read.now) l.invariant.3 c.next_n-place.result next
           _ _
           c.put_words-next.ensures.0 c.put_words-next.ensures.1,
       search rules,
     )
 
-pub shape_of-out : goal.shape_of-out
-shape_of-out c =
-    let l = c.loop-k in
-    l.invariant.5 ∙ simp length-set
-
 pub returns : goal.returns
 returns c =
     let a = c.args in
     let l = c.loop-k in
-    list_end a.letters.now a.from a.to a.count
+    list_end a.read.now a.count
     c.requires.ncounted a.out.now _ a.at _
-    c.requires.to_in_bounds
-    (offsets_end a.letters.now l.before l.i a.to l.invariant.4 (omega arith))
+    c.requires.read_in_bounds
+    (offsets_end a.read.now l.before l.i (length a.read.now) l.invariant.3 (omega arith))

@@ -1,6 +1,6 @@
 -- `n_lists::put_n_list` meets its contract. Assumes nothing.
 use mathlib.Core.Path.{◌≡◌}
-use Prim.Native.Nat.{◌+◌, ◌-◌, ◌≤◌}
+use Prim.Native.Nat.{◌+◌, ◌≤◌}
 use lib.ListN.{length}
 use Rattle.base.specs.Paste.{pasted}
 use Rattle.base.proofs.PastingLaws.{Pasting}
@@ -10,12 +10,8 @@ use Rattle.n_lists.proofs.put_n_list.Given as goal
 
 abbrev pub invariant-loop-k : goal.invariant-loop-k
 invariant-loop-k l =
-    (l.from ≤ l.before) × (l.before ≤ l.i) × (l.i ≤ l.to) × (l.k + length (n_places l.letters l.i l.to) ≡ l.count)
-    × Pasting (pasted l.initial.out (l.at + 1) (step_bytes l.from (n_places l.letters l.from l.to)))
-    (l.at + 1 + length (step_bytes l.from (n_places l.letters l.from l.to))) l.out l.next
-    (step_bytes l.before (n_places l.letters l.i l.to))
+    (l.before ≤ l.i) × (l.i ≤ length l.read) × (l.k + length (n_places l.read l.i (length l.read)) ≡ l.count)
+    × Pasting (pasted l.initial.out (l.at + 1) (step_bytes 0 (n_places l.read 0 (length l.read))))
+    (l.at + 1 + length (step_bytes 0 (n_places l.read 0 (length l.read)))) l.out l.next
+    (step_bytes l.before (n_places l.read l.i (length l.read)))
     × (length l.out ≡ length l.initial.out)
-
-abbrev pub decreases-loop-k : goal.decreases-loop-k
-decreases-loop-k l =
-    l.count - l.k

@@ -1,96 +1,87 @@
 use mathlib.Core.Path.{◌≡◌, refl, sym, ap, ◌∙◌}
 use mathlib.Core.List.{List}
-use Prim.Native.Nat.{ℕ, ◌<◌}
+use Prim.Native.Nat.{◌≤◌, ◌<◌}
 use native.Mathlib.Omega.{arith}
-use borrow.Author.Rules.{rules}
-use Rattle.names.proofs.ArrayLaws.{positive, turn_wrong, turn_long, turn_right, turn_end}
-use Rattle.names.proofs.ArrayLaws.{row_start, walked_none, walked_turn, walked_all}
-use Rattle.names.specs.Cursors.{cursor_of, starts_digits, token_size}
+use lib.ListN.{length, get_or, length-map}
+use Rattle.tokens.specs.ColumnsAt.{Cursor, cursor_after}
+use Rattle.names.proofs.WalkLaws.{no_cursor, cursor-at, turn_wrong, turn_long, turn_right, turn_end}
+use Rattle.names.proofs.WalkLaws.{row_start, walked_here, walked_turn, walked_all}
+use Rattle.names.specs.Cursors.{cursor_of, cursors_of, starts_digits, token_size}
 use Rattle.names.proofs.judge_row.Goals as goal
+use Rattle.names.proofs.judge_row.Goals.{After-judge_token}
 
-pub loop-k-init : goal.loop-k-init
-loop-k-init c =
-    let a = c.args in (
-      omega arith,
-      omega arith,
-      refl,
-      refl,
-      refl,
-      walked_none a.section.now a.first a.places.now a.values.now,
-    )
-
-pub returns-then-token-eq0 : goal.returns-then-token-eq0
-unfolding starts_digits cursor_of
-returns-then-token-eq0 c =
+pub loop-column-init : goal.loop-column-init
+loop-column-init c =
     let a = c.args in
-    let s : List ℕ = a.section.now in
-    let l = c.loop-k in
-    let is : c.judge_token-token.result ≡ token_size s a.first l.digits (cursor_of s a.places.now a.values.now l.k) =
-    c.judge_token-token.ensures.0 ∙ ap (token_size s a.first
-    l.digits) (l.invariant.5.ahead l.k (omega arith)) in (
-      sym (row_start s a.places.now a.values.now a.columns a.first c.starts_digits-digits.result
-          (omega
-          arith) c.starts_digits-digits.ensures
-          ∙ l.invariant.4
-          ∙ turn_wrong s a.places.now a.values.now a.columns a.first l.digits l.size
-          l.k c.judge_token-token.result (omega arith) is
-          c.if-token-eq0.true),
-      omega arith,
-      λ h. absurd (omega arith),
-    )
+    let cursors : List Cursor = cursors_of a.columns.now in
+    record {
+      few = omega arith;
+      size =
+          row_start a.section.now a.first cursors c.starts_digits-digits.result
+          (omega (arith, length-map a.columns.now cursor_of))
+          (c.starts_digits-digits.ensures
+          ∙ ap (starts_digits a.section.now) (cursor-at a.columns.now 0));
+      moved = refl;
+    }
 
-pub returns-then-size-token : goal.returns-then-size-token
-unfolding starts_digits cursor_of
-returns-then-size-token c =
-    let a = c.args in
-    let s : List ℕ = a.section.now in
-    let l = c.loop-k
-    in
-    let is : c.judge_token-token.result ≡ token_size s
-    a.first l.digits (cursor_of s a.places.now a.values.now l.k) =
-    c.judge_token-token.ensures.0 ∙ ap (token_size s a.first l.digits) (l.invariant.5.ahead l.k (omega arith)) in (
-      sym (row_start s a.places.now a.values.now a.columns a.first c.starts_digits-digits.result
-          (omega arith) c.starts_digits-digits.ensures
-          ∙ l.invariant.4
-          ∙ turn_long s a.places.now a.values.now a.columns a.first l.digits l.size
-          l.k c.judge_token-token.result (omega
-          arith)
-          is c.if-token-eq0.false (omega arith)),
-      omega arith,
-      λ h. absurd (omega arith),
-    )
+-- The token that is judged is that of the columns as they were.
+token : (c : After-judge_token)
+    → c.judge_token.result
+    ≡ token_size c.args.section.now c.args.first c.loop-column.digits
+    (get_or (cursors_of c.args.columns.now) c.loop-column.column-index no_cursor)
+token c =
+    let l = c.loop-column in
+    c.judge_token.ensures.size
+    ∙ ap (token_size c.args.section.now c.args.first l.digits)
+    (walked_here c.args.section.now c.args.first (cursors_of c.args.columns.now) l.columns l.column-index
+    l.invariant.moved (omega (arith, length-map c.args.columns.now cursor_of)))
 
-pub loop-k-preserved : goal.loop-k-preserved
-loop-k-preserved c =
+pub returns-in_err-token-clause-size : goal.returns-in_err-token-clause-size
+returns-in_err-token-clause-size c =
     let a = c.args in
-    let s : List ℕ = a.section.now in
-    let l = c.loop-k
-    in
-    let token : ℕ = c.judge_token-token.result in
-    let some : 0 < token = positive token c.if-token-eq0.false in
-    let is : token ≡ token_size s a.first l.digits (cursor_of s a.places.now a.values.now l.k) =
-    c.judge_token-token.ensures.0 ∙ ap (token_size s a.first l.digits) (l.invariant.5.ahead l.k (omega arith)) in (
-      omega arith,
-      omega arith,
-      search rules,
-      search rules,
-      l.invariant.4
-          ∙ turn_right s a.places.now a.values.now a.columns a.first l.digits l.size
-          l.k token (omega arith) is c.if-token-eq0.false (omega arith),
-      walked_turn s a.first a.places.now a.values.now l.places l.values _ _ l.k
-          l.invariant.5 (c.judge_token-token.ensures.1
-          some),
-    )
+    let l = c.loop-column in
+    let is = token (goal.at.returns-in_err-token-clause-size c).After-judge_token in
+    c.from_residual.ensures
+    ∙ sym (l.invariant.size
+    ∙ turn_wrong a.section.now a.first (cursors_of a.columns.now) l.digits l.size l.column-index
+    (omega (arith, length-map a.columns.now cursor_of)) (sym is ∙ c.in_err-token.was))
+
+pub returns-then-size-token-clause-size : goal.returns-then-size-token-clause-size
+returns-then-size-token-clause-size c =
+    let a = c.args in
+    let l = c.loop-column in
+    let is = token (goal.at.returns-then-size-token-clause-size c).After-judge_token in
+    sym (l.invariant.size
+    ∙ turn_long a.section.now a.first (cursors_of a.columns.now) l.digits l.size l.column-index
+    (omega (arith, length-map a.columns.now cursor_of)) c.in_ok-token.token (sym is ∙ c.in_ok-token.was) (omega (arith, l.invariant.few)))
+
+pub loop-column-preserved : goal.loop-column-preserved
+loop-column-preserved c =
+    let a = c.args in
+    let l = c.loop-column in
+    let cursors : List Cursor = cursors_of a.columns.now in
+    let h : l.column-index < length cursors = omega (arith, length-map a.columns.now cursor_of) in
+    let is = token (goal.at.loop-column-preserved c).After-judge_token in
+    record {
+      few = omega (arith, l.invariant.few);
+      size = l.invariant.size
+          ∙ turn_right a.section.now a.first cursors l.digits l.size l.column-index h
+          c.in_ok-token.token (sym is ∙ c.in_ok-token.was) (omega (arith, l.invariant.few));
+      moved = walked_turn a.section.now a.first cursors l.columns l.column-index l.invariant.moved
+          c.judge_token.new.column h
+          (c.judge_token.ensures.moved (rw c.in_ok-token.was refl)
+          ∙ ap (cursor_after a.section.now a.first)
+          (walked_here a.section.now a.first cursors l.columns l.column-index l.invariant.moved h));
+    }
 
 pub returns : goal.returns
-unfolding starts_digits cursor_of
 returns c =
     let a = c.args in
-    let s : List ℕ = a.section.now in
-    let l = c.loop-k in (
-      sym (row_start s a.places.now a.values.now a.columns a.first c.starts_digits-digits.result (omega arith) c.starts_digits-digits.ensures
-          ∙ l.invariant.4
-          ∙ turn_end s a.places.now a.values.now a.columns a.first l.digits l.size l.k (omega arith)),
-      omega arith,
-      λ h. walked_all s a.first a.places.now a.values.now l.places l.values a.columns l.k (omega arith) l.invariant.5,
-    )
+    let l = c.loop-column in
+    let cursors : List Cursor = cursors_of a.columns.now in
+    let all : length cursors ≤ l.column-index = omega (arith, length-map a.columns.now cursor_of) in
+    record {
+      size = sym (l.invariant.size ∙ turn_end a.section.now a.first cursors l.digits l.size l.column-index all);
+      bound = l.invariant.few;
+      moved = λ some. walked_all a.section.now a.first cursors l.columns l.column-index l.invariant.moved all;
+    }

@@ -11,14 +11,9 @@ use Rattle.names.proofs.judge_rows.Given as goal
 
 abbrev pub invariant-loop-i : goal.invariant-loop-i
 invariant-loop-i l =
-    (l.i ≤ l.reads)
-    × (l.sum ≤ 255 * l.i)
-    × (length l.places ≡ length l.initial.places)
-    × (length l.values ≡ length l.initial.values)
-    × (judged_from 0 l.reads l.section l.columns true (cursors_of l.section l.initial.places l.initial.values l.columns)
-    ≡ judged_from l.sum (l.reads - l.i) l.section l.columns (eqb l.i 0) (cursors_of l.section l.places l.values
-    l.columns))
-
-abbrev pub decreases-loop-i : goal.decreases-loop-i
-decreases-loop-i l =
-    l.reads - l.i
+    record {
+      few : l.sum ≤ 255 * l.i;
+      judged : judged_from 0 l.reads l.section (length l.initial.columns) true (cursors_of l.initial.columns)
+          ≡ judged_from l.sum (l.reads - l.i) l.section (length l.initial.columns) (eqb l.i 0)
+          (cursors_of l.columns);
+    }

@@ -1,19 +1,22 @@
 -- `names::put_names` meets its contract: what is judged has a good table and rows. Assumes nothing.
-use mathlib.Core.Path.{◌≡◌, sym, ap, ◌∙◌}
-use mathlib.Core.Bool.{true}
+use mathlib.Core.Path.{◌≡◌, sym, ap, subst, ◌∙◌}
+use mathlib.Core.Bool.{true, false}
 use mathlib.Core.List.{List, map, flatten}
 use Prim.Native.Nat.{ℕ}
 use native.Mathlib.Omega.{arith}
 use lib.ListN.{length}
+use lib.Seq.{length-take-le}
 use Rattle.base.specs.Lists.{places_from}
+use Rattle.base.specs.Numbers.{le}
 use Rattle.base.specs.Paste.{pasted}
 use Rattle.base.proofs.PasteLaws.{pasted_nil}
-use Rattle.tokens.specs.ColumnsAt.{Cursor, column_count, first_cursors, table_invalid}
-use Rattle.tokens.specs.NamesAt.{names_from, names_read, rows_invalid}
+use Rattle.tokens.specs.ColumnsAt.{Cursor, column_count, first_cursors}
+use Rattle.tokens.specs.NamesAt.{names_from, names_invalid, names_read, rows_invalid}
 use Rattle.names.specs.Cursors.{cursors_of, TableFits}
 use Rattle.names.proofs.JudgeLaws.{table_fits}
 use Rattle.names.proofs.PutRowsLaws.{names-right, names_none}
 use Rattle.names.proofs.put_names.Goals as goal
+use Rattle.names.proofs.put_names.Goals.{After-first_places}
 
 pub returns-then-reads-eq0 : goal.returns-then-reads-eq0
 unfolding flatten places_from
@@ -25,68 +28,75 @@ returns-then-reads-eq0 c =
           pasted_nil a.ends.now 0),
     )
 
-pub u32_at-requires : goal.u32_at-requires
-u32_at-requires c =
-    let a = c.args in
-    let s : List ℕ = a.section.now in
-    let fits : TableFits s (column_count s) 256 256 =
-    table_fits s (column_count s) 256 256 (names-right a.reads s c.if-reads-eq0.false c.requires.section_value.0).0 (omega arith) (omega arith) in
-    omega (arith, fits.sizes)
+-- The table is a good one, of so many columns.
+fits : (reads : ℕ) (section : List ℕ) → (reads ≡ 0 → ⊥) → names_invalid reads section ≡ false
+    → TableFits section (column_count section)
+fits reads section some right =
+    table_fits section (column_count section) (names-right reads section some right).0
+
+fits_count : (reads count : ℕ) (section : List ℕ) → (reads ≡ 0 → ⊥)
+    → names_invalid reads section ≡ false → count ≡ le 4 section 0 → TableFits section count
+unfolding column_count
+fits_count reads count section some right is =
+    subst (TableFits section) (sym is) (fits reads section some right)
+
+pub u32_at-count-requires : goal.u32_at-count-requires
+u32_at-count-requires c =
+    omega (arith, (fits c.args.reads c.args.section.now c.if-reads-eq0.false c.requires.section_value.0).sizes)
+
+pub slice_bounds-room-end : goal.slice_bounds-room-end
+slice_bounds-room-end c = (fits_count c.args.reads _ c.args.section.now c.if-reads-eq0.false
+    c.requires.section_value.0 c.u32_at-count.ensures).few
+
+pub slice_bounds-columns-end : goal.slice_bounds-columns-end
+slice_bounds-columns-end c =
+    sym (length-take-le c.u32_at-count.result _ (fits_count c.args.reads _ c.args.section.now c.if-reads-eq0.false
+    c.requires.section_value.0 c.u32_at-count.ensures).few)
 
 pub first_places-requires : goal.first_places-requires
-unfolding column_count
 first_places-requires c =
-    let a = c.args in
-    let s : List ℕ = a.section.now in
-    let n : ℕ = c.size32-columns.result in
-    let is : n ≡ column_count s = c.size32-columns.ensures.0 ∙ c.u32_at.ensures in
-    table_fits s n 256 256 (ap (table_invalid s) is ∙ (names-right a.reads s c.if-reads-eq0.false c.requires.section_value.0).0) (omega arith) (omega arith)
+    let fits = fits_count c.args.reads _ c.args.section.now c.if-reads-eq0.false
+    c.requires.section_value.0 c.u32_at-count.ensures in
+    subst (TableFits c.args.section.now) (sym (length-take-le c.u32_at-count.result _ fits.few)) fits
+
+-- The columns are at their starts.
+starts : (c : After-first_places) → cursors_of c.first_places.new.columns
+    ≡ first_cursors c.args.section.now (column_count c.args.section.now)
+unfolding column_count
+starts c =
+    let fits = fits_count c.args.reads _ c.args.section.now c.if-reads-eq0.false
+    c.requires.section_value.0 c.u32_at-count.ensures in
+    c.first_places.ensures
+    ∙ ap (first_cursors c.args.section.now) (length-take-le c.u32_at-count.result _ fits.few ∙ c.u32_at-count.ensures)
 
 pub put_rows-requires : goal.put_rows-requires
-unfolding column_count names_read
+unfolding names_read
 put_rows-requires c =
     let a = c.args in
     let s : List ℕ = a.section.now in
-    let n : ℕ = c.size32-columns.result in
-    let is : n ≡ column_count s = c.size32-columns.ensures.0 ∙ c.u32_at.ensures in
-    let right = names-right a.reads s c.if-reads-eq0.false c.requires.section_value.0 in
-    let cursors : List Cursor = cursors_of s c.first_places.new.places c.first_places.new.values n in
-    let start : cursors ≡ first_cursors s (column_count s) = c.first_places.ensures ∙ ap (first_cursors s) is in
-    let size : length (flatten (names_from a.reads s true cursors)) ≡ length (flatten (names_read
-    a.reads s)) =
-    ap (λ (cs : List Cursor). length (flatten (names_from a.reads s true cs))) start in
+    let start = starts (goal.at.put_rows-requires c).After-first_places in
     record {
-      table_fits = table_fits s n _ _ (ap (table_invalid s) is ∙ right.0) (omega (
-        arith,
-        c.first_places.auto.places,
-      )) (omega (
-        arith,
-        c.first_places.auto.values,
-      ));
-      columns_value = (ap (rows_invalid a.reads s true) start ∙ right.1, omega arith);
+      reads_bound = c.requires.section_value.1;
+      columns_value = ap (rows_invalid a.reads s true) start
+          ∙ (names-right a.reads s c.if-reads-eq0.false c.requires.section_value.0).1;
       columns_in_bounds = (
         omega (
           arith,
-          size,
+          ap (λ (cs : List Cursor). length (flatten (names_from a.reads s true cs))) start,
           c.requires.section_in_bounds.0,
         ),
-        omega arith,
+        c.requires.section_in_bounds.1,
       );
     }
 
 pub returns : goal.returns
-unfolding column_count names_read
+unfolding names_read
 returns c =
     let a = c.args in
     let s : List ℕ = a.section.now in
-    let n : ℕ = c.size32-columns.result in
-    let is : n ≡ column_count s = c.size32-columns.ensures.0 ∙ c.u32_at.ensures in
-    let start : cursors_of s c.first_places.new.places c.first_places.new.values n ≡ first_cursors s (column_count s) =
-    c.first_places.ensures ∙ ap (first_cursors s) is in
+    let start = starts (goal.at.returns c).After-first_places in
     let put = c.put_rows.ensures in (
-      put.0 ∙ ap (λ (cs : List Cursor). pasted a.names.now 0 (flatten (names_from a.reads s
-          true cs))) start,
+      put.0 ∙ ap (λ (cs : List Cursor). pasted a.names.now 0 (flatten (names_from a.reads s true cs))) start,
       put.1 ∙ ap (λ (cs : List Cursor). pasted a.ends.now 0 (places_from 0 (map length
-          (names_from
-          a.reads s true cs)))) start,
+          (names_from a.reads s true cs)))) start,
     )

@@ -1,78 +1,71 @@
-use mathlib.Core.Path.{◌≡◌, refl, ap, ◌∙◌}
+use mathlib.Core.Path.{◌≡◌, ap, ◌∙◌}
 use mathlib.Core.List.{List}
 use Prim.Native.Nat.{ℕ, ◌+◌, ◌≤◌, ◌<◌}
 use native.Mathlib.Omega.{arith}
-use lib.ListN.{length}
-use borrow.Author.Rules.{rules}
+use lib.ListN.{length, get_or, length-map}
 use Rattle.base.specs.Paste.{pasted}
-use Rattle.base.proofs.PastingLaws.{pasting-start, pasting_room, pasting_turn, pasting_end}
-use Rattle.tokens.specs.ColumnsAt.{Cursor, token_at, token_invalid}
-use Rattle.names.specs.Cursors.{cursor_of}
-use Rattle.names.proofs.ArrayLaws.{walked_none, walked_turn, walked_all}
+use Rattle.base.proofs.PastingLaws.{pasting_room, pasting_turn, pasting_end}
+use Rattle.tokens.specs.ColumnsAt.{Cursor, cursor_after, token_at, token_invalid}
+use Rattle.names.specs.Cursors.{cursor_of, cursors_of}
+use Rattle.names.proofs.WalkLaws.{no_column, no_cursor, walked_here, walked_turn, walked_all}
 use Rattle.names.proofs.PutLaws.{name_from, name_split, name_none, token_right}
 use Rattle.names.proofs.put_row.Goals as goal
+use Rattle.names.proofs.put_row.Goals.{In-loop-column}
 
-pub loop-k-init : goal.loop-k-init
-loop-k-init c =
-    let a = c.args in (
-      omega arith,
-      refl,
-      refl,
-      refl,
-      pasting-start a.names.now a.from (name_from a.section.now a.first a.places.now
-          a.values.now a.columns 0) c.requires.columns_in_bounds,
-      walked_none a.section.now a.first a.places.now a.values.now,
-    )
+-- The next column is as it was.
+same : (c : In-loop-column)
+    → cursor_of (get_or c.loop-column.columns c.loop-column.column-index no_column)
+    ≡ get_or (cursors_of c.args.columns.now) c.loop-column.column-index no_cursor
+same c =
+    walked_here c.args.section.now c.args.first (cursors_of c.args.columns.now) c.loop-column.columns
+    c.loop-column.column-index c.loop-column.invariant.moved
+    (omega (arith, length-map c.args.columns.now cursor_of))
 
 pub put_token-at-requires : goal.put_token-at-requires
 put_token-at-requires c =
     let a = c.args in
     let s : List ℕ = a.section.now in
-    let l = c.loop-k in
-    let there : Cursor = cursor_of s a.places.now a.values.now l.k in
-    let same : cursor_of s l.places l.values l.k ≡ there = l.invariant.5.ahead l.k (omega
-    arith) in
-    let more : l.k < a.columns = omega arith in
+    let l = c.loop-column in
+    let cursors : List Cursor = cursors_of a.columns.now in
+    let there : Cursor = get_or cursors l.column-index no_cursor in
+    let is = same (goal.at.put_token-at-requires c).In-loop-column in
+    let more : l.column-index < length cursors = omega (arith, length-map a.columns.now cursor_of) in
     let room : l.at + length (token_at s a.first there) ≤ length l.names =
-    pasting_room l.invariant.4 (token_at s a.first there) (name_from s a.first a.places.now
-    a.values.now a.columns (l.k + 1))
-    (name_split s a.first a.places.now a.values.now a.columns l.k more) in
+    pasting_room l.invariant.written (token_at s a.first there) (name_from s a.first cursors (l.column-index + 1))
+    (name_split s a.first cursors l.column-index more) in
     record {
-      k_in_bounds = (omega arith, omega arith, omega arith);
-      k_value = (
-        ap (token_invalid s a.first) same ∙ token_right s a.first a.places.now a.values.now a.columns c.requires.columns_value l.k more,
-        omega (arith, ap (λ (u : Cursor). length (token_at s a.first u)) same),
-      );
+      column_value = ap (token_invalid s a.first) is ∙ token_right s a.first cursors c.requires.columns_value l.column-index more;
+      out_in_bounds = omega (arith, ap (λ (u : Cursor). length (token_at s a.first u)) is);
     }
 
-pub loop-k-preserved : goal.loop-k-preserved
-loop-k-preserved c =
+pub loop-column-preserved : goal.loop-column-preserved
+loop-column-preserved c =
     let a = c.args in
     let s : List ℕ = a.section.now in
-    let l = c.loop-k in
-    let same : cursor_of s l.places l.values l.k ≡ cursor_of s a.places.now a.values.now l.k = l.invariant.5.ahead l.k (omega arith) in
-    let more : l.k < a.columns = omega arith in
-    let put = c.put_token-at.ensures in (
-      omega arith,
-      search rules,
-      search rules,
-      search rules,
-      pasting_turn l.invariant.4 _ _ _ _ (name_split s a.first a.places.now a.values.now a.columns l.k more)
-          (put.written ∙ ap (λ (u : Cursor). pasted l.names l.at (token_at s a.first u))
-          same)
-          (put.ended ∙ ap (λ (u : Cursor). l.at + length (token_at s a.first u)) same),
-      walked_turn s a.first a.places.now a.values.now l.places l.values _ _ l.k
-          l.invariant.5 put.moved,
-    )
+    let l = c.loop-column in
+    let cursors : List Cursor = cursors_of a.columns.now in
+    let is = same (goal.at.loop-column-preserved c).In-loop-column in
+    let more : l.column-index < length cursors = omega (arith, length-map a.columns.now cursor_of) in
+    let put = c.put_token-at.ensures in
+    record {
+      written = pasting_turn l.invariant.written _ _ _ _ (name_split s a.first cursors l.column-index more)
+          (put.written ∙ ap (λ (u : Cursor). pasted l.names l.at (token_at s a.first u)) is)
+          (put.ended ∙ ap (λ (u : Cursor). l.at + length (token_at s a.first u)) is);
+      moved = walked_turn s a.first cursors l.columns l.column-index l.invariant.moved
+          c.put_token-at.new.column more
+          (put.moved ∙ ap (cursor_after s a.first) is);
+    }
 
 pub returns : goal.returns
 returns c =
     let a = c.args in
     let s : List ℕ = a.section.now in
-    let l = c.loop-k in
-    let end = pasting_end l.invariant.4 (name_none s a.first a.places.now a.values.now a.columns l.k (omega arith)) in
+    let l = c.loop-column in
+    let cursors : List Cursor = cursors_of a.columns.now in
+    let all : length cursors ≤ l.column-index = omega (arith, length-map a.columns.now cursor_of) in
+    let end = pasting_end l.invariant.written (name_none s a.first cursors l.column-index all) in
     record {
       written = end.0;
       ended = end.1;
-      moved = walked_all s a.first a.places.now a.values.now l.places l.values a.columns l.k (omega arith) l.invariant.5;
+      moved = walked_all s a.first cursors l.columns l.column-index l.invariant.moved all;
     }

@@ -17,27 +17,13 @@ use Rattle.names.proofs.put_rows.Given as goal
 
 abbrev pub invariant-loop-i : goal.invariant-loop-i
 invariant-loop-i l =
-    (l.i ≤ l.reads)
-    × (l.at ≤ 255 * l.i)
-    × (length l.places ≡ length l.initial.places)
-    × (length l.values ≡ length l.initial.values)
-    × (length l.names ≡ length l.initial.names)
-    × (length l.ends ≡ length l.initial.ends)
-    × (rows_invalid (l.reads - l.i) l.section (eqb l.i 0) (cursors_of l.section l.places l.values l.columns) ≡ false)
-    × Pasting
-    (pasted l.initial.names 0 (flatten (names_left l.section l.reads 0 (cursors_of l.section l.initial.places l.initial.values
-    l.columns))))
-    (0 + length (flatten (names_left l.section l.reads 0 (cursors_of l.section l.initial.places l.initial.values l.columns))))
-    l.names l.at
-    (flatten (names_left l.section l.reads l.i (cursors_of l.section l.places l.values l.columns)))
-    × Pasting
-    (pasted l.initial.ends 0 (places_from 0 (map length (names_left l.section l.reads 0 (cursors_of l.section l.initial.places
-    l.initial.values l.columns)))))
-    (0 + length (places_from 0 (map length (names_left l.section l.reads 0 (cursors_of l.section l.initial.places
-    l.initial.values l.columns)))))
-    l.ends l.i (places_from l.at (map length (names_left l.section l.reads l.i (cursors_of l.section l.places l.values
-    l.columns))))
-
-abbrev pub decreases-loop-i : goal.decreases-loop-i
-decreases-loop-i l =
-    l.reads - l.i
+    let first = names_left l.section l.reads 0 (cursors_of l.initial.columns) in
+    let left = names_left l.section l.reads l.i (cursors_of l.columns) in
+    record {
+      few : l.at ≤ 255 * l.i;
+      right : rows_invalid (l.reads - l.i) l.section (eqb l.i 0) (cursors_of l.columns) ≡ false;
+      written : Pasting (pasted l.initial.names 0 (flatten first)) (0 + length (flatten first)) l.names l.at
+          (flatten left);
+      ended : Pasting (pasted l.initial.ends 0 (places_from 0 (map length first)))
+          (0 + length (places_from 0 (map length first))) l.ends l.i (places_from l.at (map length left));
+    }

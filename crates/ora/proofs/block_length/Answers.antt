@@ -1,20 +1,28 @@
 -- `ora::block_length` meets its contract: the table of a header that earns no number is there. Assumes
 -- nothing.
-use Rattle.format.proofs.SectionLaws.{accepted-number, refused-number, accepted-table}
+use mathlib.Core.Path.{sym, ◌∙◌}
+use Rattle.format.proofs.SectionLaws.{accepted-table}
 use Rattle.format.specs.BlockAnswer.{length_answer}
+use Rattle.header.proofs.FaultLaws.{header-accepted, header-refused}
 use Rattle.ora.proofs.block_length.Goals as goal
 
-pub returns-then-header_fault-ne0 : goal.returns-then-header_fault-ne0
-unfolding length_answer
-returns-then-header_fault-ne0 c =
-    simp (refused-number _ _ c.header_fault.ensures c.if-header_fault-ne0.true)
+pub invariant_of-block_length : goal.invariant_of-block_length
+invariant_of-block_length c =
+    record {
+      there = accepted-table _
+          (header-accepted _ _ c.header_fault.ensures
+          (sym c.is_err-refused.ensures.value ∙ c.if-not-refused.true));
+    }
 
-pub block_length-requires : goal.block_length-requires
-block_length-requires c =
-    accepted-table _ (accepted-number _ _ c.header_fault.ensures c.if-header_fault-ne0.false)
+pub returns-then-not-refused : goal.returns-then-not-refused
+unfolding length_answer
+returns-then-not-refused c =
+    simp (header-accepted _ _ c.header_fault.ensures
+    (sym c.is_err-refused.ensures.value ∙ c.if-not-refused.true))
+    c.block_length.ensures.0
 
 pub returns : goal.returns
 unfolding length_answer
 returns c =
-    simp (accepted-number _ _ c.header_fault.ensures c.if-header_fault-ne0.false)
-    c.block_length.ensures.0
+    simp (header-refused _ _ c.header_fault.ensures
+    (sym c.is_err-refused.ensures.value ∙ c.if-not-refused.false))

@@ -23,27 +23,6 @@ told : (c : Start) (r : Record) → c.args.«record» ≡ r → (written : List 
 told c r e written codes is =
     is ∙ sym (ap (λ (k : Record). length (fields_written c.args.previous k written codes)) e)
 
-pub overflow_add-result-in-Local-3 : goal.overflow_add-result-in-Local-3
-unfolding packed_length
-overflow_add-result-in-Local-3 c =
-    omega (
-      arith,
-      c.packed_length2.ensures,
-      c.size8.ensures.1,
-      c.size8-in-Local.ensures.1,
-      c.position_length-in-Local.ensures.1,
-    )
-
-pub overflow_add-result-in-Raw : goal.overflow_add-result-in-Raw
-unfolding packed_length
-overflow_add-result-in-Raw c =
-    omega (arith, c.packed_length2-in-Raw.ensures)
-
-pub overflow_add-result-in-Raw4 : goal.overflow_add-result-in-Raw4
-unfolding packed_length
-overflow_add-result-in-Raw4 c =
-    omega (arith, c.packed_length4.ensures)
-
 pub returns-in-Perfect : goal.returns-in-Perfect
 returns-in-Perfect c = (
   λ written codes many size.
@@ -67,9 +46,9 @@ returns-in-Global c = (
 pub returns-in-Local : goal.returns-in-Local
 unfolding packed_length
 returns-in-Local c =
-    let left = c.size8.ensures.0 in
-    let right = c.size8-in-Local.ensures.0 in
-    let packed = c.packed_length2.ensures ∙ ap₂ (λ (l m : ℕ). packed_length 4 (l + m)) left
+    let left = c.from.ensures in
+    let right = c.from-in-Local.ensures in
+    let packed = c.packed_length.ensures ∙ ap₂ (λ (l m : ℕ). packed_length 4 (l + m)) left
     right in (
       λ written codes many size.
           told (goal.at.returns-in-Local c).Start _ c.in-Local.is written codes
@@ -85,9 +64,9 @@ returns-in-Local c =
           )),
       omega (
         arith,
-        c.packed_length2.ensures,
-        c.size8.ensures.1,
-        c.size8-in-Local.ensures.1,
+        c.packed_length.ensures,
+        c.from.type_inv,
+        c.from-in-Local.type_inv,
         c.position_length-in-Local.ensures.1,
       ),
     )
@@ -99,14 +78,14 @@ returns-in-Raw c = (
       told (goal.at.returns-in-Raw c).Start _ c.in-Raw.is written codes
       (omega (
         arith,
-        c.packed_length2-in-Raw.ensures,
+        c.packed_length-in-Raw.ensures,
         ap length
             (raw-fields c.args.previous written codes),
         length-raw codes,
         ap (packed_length 4)
             size,
       )),
-  omega (arith, c.packed_length2-in-Raw.ensures),
+  omega (arith, c.packed_length-in-Raw.ensures),
 )
 
 pub returns-in-Raw4 : goal.returns-in-Raw4
@@ -116,12 +95,12 @@ returns-in-Raw4 c = (
       told (goal.at.returns-in-Raw4 c).Start _ c.in-Raw4.is written codes
       (omega (
         arith,
-        c.packed_length4.ensures,
+        c.packed_length-in-Raw4.ensures,
         ap length
             (raw4-fields c.args.previous written codes),
         length-raw4 codes,
         ap
             (packed_length 2) size,
       )),
-  omega (arith, c.packed_length4.ensures),
+  omega (arith, c.packed_length-in-Raw4.ensures),
 )

@@ -1,19 +1,18 @@
 -- `record_writer::put_fields` meets its contract: by the kind. Assumes nothing.
 -- The read's codes and the entries that are written.
 use mathlib.Core.Path.{◌≡◌, sym, ap, ◌∙◌, subst}
-use Prim.Native.Nat.{ℕ, ◌+◌, ◌-◌, ◌≤◌}
+use Prim.Native.Nat.{ℕ, ◌+◌, ◌≤◌}
 use native.Mathlib.Omega.{arith}
 use mathlib.Core.List.{List}
 use lib.ListN.{length}
 use Rattle.base.specs.Paste.{pasted}
 use Rattle.dna.specs.Record.{Entry}
-use Rattle.dna.specs.RecordAt.{entries_at}
 use Rattle.dna.specs.declared.Placement.{Placement}
 use Rattle.dna.specs.declared.Record.{Record}
 use Rattle.dna.specs.declared.Record.TheVariants as kinds
-use Rattle.letter_packing.specs.Read.{codes_in}
+use Rattle.letter_packing.specs.Read.{codes_of}
 use Rattle.record_writer.specs.Written.{fields_written}
-use Rattle.record_writer.specs.Parts.{position_bytes, aligned_bytes, local_bytes, raw_bytes}
+use Rattle.record_writer.specs.Parts.{entries_of, position_bytes, aligned_bytes, local_bytes, raw_bytes}
 use Rattle.record_writer.specs.Parts.{raw4_bytes}
 use Rattle.record_writer.specs.Writable.{KindFits}
 use Rattle.record_writer.proofs.FieldLaws.{perfect-fields, global_fields, local_fields}
@@ -22,10 +21,10 @@ use Rattle.record_writer.proofs.put_fields.Goals as goal
 use Rattle.record_writer.proofs.put_fields.Goals.{Start}
 
 abbrev codes : (c : Start) → List ℕ
-codes c = codes_in c.args.letters.now c.args.from c.args.to
+codes c = codes_of c.args.read.now
 
 abbrev entries : (c : Start) → List Entry
-entries c = entries_at c.args.list.now 0 c.args.entries
+entries c = entries_of c.args.entries.now
 
 -- The bytes of the fields, where the record is `r`.
 abbrev fields : (c : Start) (r : Record) → List ℕ
@@ -37,16 +36,14 @@ perfect : (c : Start) (p : Placement) → fields c (kinds.Perfect p)
 perfect c p = perfect-fields c.args.previous p (entries c) (codes c)
 
 global : (c : Start) (p : Placement) → fields c (kinds.Global p)
-    ≡ aligned_bytes 4 c.args.previous p.position c.args.list.now c.args.entries
+    ≡ aligned_bytes 4 c.args.previous p.position c.args.entries.now
 global c p =
-    global_fields c.args.previous p c.args.list.now c.args.entries c.requires.writable.1
-    (codes c)
+    global_fields c.args.previous p c.args.entries.now (codes c)
 
 local : (c : Start) (p : Placement) → fields c (kinds.Local p)
-    ≡ local_bytes p c.args.previous c.args.list.now c.args.entries (codes c)
+    ≡ local_bytes p c.args.previous c.args.entries.now (codes c)
 local c p =
-    local_fields c.args.previous p c.args.list.now c.args.entries c.requires.writable.1
-    (codes c)
+    local_fields c.args.previous p c.args.entries.now (codes c)
 
 raw : (c : Start) → fields c kinds.Raw ≡ raw_bytes (codes c)
 raw c = raw-fields c.args.previous (entries c) (codes c)
@@ -56,25 +53,23 @@ raw4 c = raw4-fields c.args.previous (entries c) (codes c)
 
 -- How many bytes a global record takes.
 many : (c : Start) (p : Placement)
-    → length (aligned_bytes 4 c.args.previous p.position c.args.list.now
-    c.args.entries)
-    ≡ 1 + length (position_bytes c.args.previous p.position) + c.args.entries
+    → length (aligned_bytes 4 c.args.previous p.position c.args.entries.now)
+    ≡ 1 + length (position_bytes c.args.previous p.position) + length c.args.entries.now
 many c p =
-    length_aligned 4 c.args.previous p.position c.args.list.now c.args.entries
-    c.requires.writable.1
+    length_aligned 4 c.args.previous p.position c.args.entries.now
 
 -- What is known of the record, by its kind.
 kind : (c : Start) (r : Record) → c.args.«record» ≡ r
-    → KindFits r (c.args.to - c.args.from)
+    → KindFits r (length c.args.read.now)
 kind c r e =
-    subst (λ (r : Record). KindFits r (c.args.to - c.args.from)) e c.requires.writable.0.kind
+    subst (λ (r : Record). KindFits r (length c.args.read.now)) e c.requires.writable.kind
 
 -- There is room for the bytes of the kind.
 room : (c : Start) (r : Record) (bytes : List ℕ) → c.args.«record» ≡ r → fields c r ≡ bytes
     → c.args.at + length bytes ≤ length c.args.out.now
 room c r bytes e is =
     subst (λ (b : List ℕ). c.args.at + length b ≤ length c.args.out.now)
-    (ap (fields c) e ∙ is) c.requires.to_in_bounds
+    (ap (fields c) e ∙ is) c.requires.read_in_bounds
 
 -- What the kind's writer wrote.
 written : (c : Start) (r : Record) (bytes : List ℕ) → c.args.«record» ≡ r
@@ -93,33 +88,25 @@ pub put_position-requires : goal.put_position-requires
 put_position-requires c =
     ((kind (goal.at.put_position-requires c).Start _ c.in-Perfect.is).position, room (goal.at.put_position-requires c).Start _ _ c.in-Perfect.is (perfect (goal.at.put_position-requires c).Start c.in-Perfect.placement))
 
-pub put_aligned-requires : goal.put_aligned-requires
-put_aligned-requires c =
-    record {
-      bit_bound = (omega arith, (kind (goal.at.put_aligned-requires c).Start _ c.in-Global.is).position, c.requires.writable.0.few, c.requires.writable.1);
-      entries_in_bounds = omega (arith, room (goal.at.put_aligned-requires c).Start _ _ c.in-Global.is (global (goal.at.put_aligned-requires c).Start c.in-Global.placement), many (goal.at.put_aligned-requires c).Start c.in-Global.placement);
-    }
+pub put_aligned-requires-clause-entries_in_bounds : goal.put_aligned-requires-clause-entries_in_bounds
+put_aligned-requires-clause-entries_in_bounds c =
+    let start = (goal.at.put_aligned-requires-clause-entries_in_bounds c).Start in
+    omega (arith, room start _ _ c.in-Global.is (global start c.in-Global.placement), many start c.in-Global.placement)
 
-pub put_local-requires : goal.put_local-requires
-put_local-requires c =
-    record {
-      placement_fits = (kind (goal.at.put_local-requires c).Start _ c.in-Local.is, c.requires.writable.0.few, c.requires.writable.1, c.requires.writable.0.lies);
-      to_in_bounds = room (goal.at.put_local-requires c).Start _ _ c.in-Local.is (local (goal.at.put_local-requires c).Start c.in-Local.placement);
-    }
+pub put_local-requires-clause-read_in_bounds : goal.put_local-requires-clause-read_in_bounds
+put_local-requires-clause-read_in_bounds c =
+    let start = (goal.at.put_local-requires-clause-read_in_bounds c).Start in
+    room start _ _ c.in-Local.is (local start c.in-Local.placement)
 
-pub put_raw-requires : goal.put_raw-requires
-put_raw-requires c =
-    record {
-      read_lies = c.requires.writable.0.lies;
-      to_in_bounds = room (goal.at.put_raw-requires c).Start _ _ c.in-Raw.is (raw (goal.at.put_raw-requires c).Start);
-    }
+pub put_raw-requires-clause-read_in_bounds : goal.put_raw-requires-clause-read_in_bounds
+put_raw-requires-clause-read_in_bounds c =
+    let start = (goal.at.put_raw-requires-clause-read_in_bounds c).Start in
+    room start _ _ c.in-Raw.is (raw start)
 
-pub put_raw4-requires : goal.put_raw4-requires
-put_raw4-requires c =
-    record {
-      read_lies = c.requires.writable.0.lies;
-      to_in_bounds = room (goal.at.put_raw4-requires c).Start _ _ c.in-Raw4.is (raw4 (goal.at.put_raw4-requires c).Start);
-    }
+pub put_raw4-requires-clause-read_in_bounds : goal.put_raw4-requires-clause-read_in_bounds
+put_raw4-requires-clause-read_in_bounds c =
+    let start = (goal.at.put_raw4-requires-clause-read_in_bounds c).Start in
+    room start _ _ c.in-Raw4.is (raw4 start)
 
 pub returns-in-Perfect : goal.returns-in-Perfect
 returns-in-Perfect c =

@@ -16,8 +16,8 @@ returns-then-bases-position c =
     let a = c.args in
     simp (c.if-forward.false, le-leb a.bases a.position (omega (arith, c.if-bases-position.true)))
 
-pub returns : goal.returns
+pub returns-else-bases-position : goal.returns-else-bases-position
 unfolding local_outside
-returns c =
+returns-else-bases-position c =
     let a = c.args in
     simp (c.if-forward.false, lt-leb a.bases a.position (omega (arith, c.if-bases-position.false)))

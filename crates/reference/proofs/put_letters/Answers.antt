@@ -8,10 +8,8 @@ use Rattle.reference.proofs.put_letters.Goals as goal
 
 pub loop-k-init : goal.loop-k-init
 loop-k-init c =
-    let a = c.args in (
-      omega arith,
-      written_none a.reference.now a.forward a.leftmost a.bases a.out.now a.at,
-    )
+    let a = c.args in
+    written_none a.reference.now a.forward a.leftmost a.bases a.out.now a.at
 
 pub strand_base-requires : goal.strand_base-requires
 strand_base-requires c =
@@ -25,29 +23,19 @@ pub letter_of_code-requires : goal.letter_of_code-requires
 letter_of_code-requires c =
     code-small _ _ c.strand_base.ensures (strand_base-below _ _ _)
 
-pub bounds-out-at : goal.bounds-out-at
-bounds-out-at c =
-    omega (arith, c.loop-k.invariant.1.sized)
-
 pub loop-k-preserved : goal.loop-k-preserved
 loop-k-preserved c =
     let a = c.args in
-    let shown = strand_base a.reference.now a.forward in (
-      omega arith,
-      letter_written a.reference.now a.forward a.leftmost a.bases
-          c.letter_of_code.result c.loop-k.invariant.1 (omega arith) c.loop-k-test.true
-          (c.letter_of_code.ensures
-          ∙ ap letter_of_code
-          (c.strand_base.ensures
-          ∙ ap shown c.stretch_index-index.ensures)),
-    )
-
-pub shape_of-out : goal.shape_of-out
-shape_of-out c =
-    c.loop-k.invariant.1.sized
+    let shown = strand_base a.reference.now a.forward in
+    letter_written a.reference.now a.forward a.leftmost a.bases
+    c.letter_of_code.result c.loop-k.invariant (omega arith) c.loop-k-test.true
+    (c.letter_of_code.ensures
+    ∙ ap letter_of_code
+    (c.strand_base.ensures
+    ∙ ap shown c.stretch_index-index.ensures))
 
 pub returns : goal.returns
 returns c =
     let a = c.args in
-    written_all a.reference.now a.forward a.leftmost a.bases c.loop-k.invariant.1
+    written_all a.reference.now a.forward a.leftmost a.bases c.loop-k.invariant
     (omega arith) (omega arith)

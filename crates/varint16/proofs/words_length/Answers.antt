@@ -6,5 +6,5 @@ use Rattle.varint16.proofs.words_length.Goals as goal
 pub returns : goal.returns
 returns c =
     let number = c.args.number in
-    let same = c.size32.ensures.0 in
+    let fits = c.ranges.number.fits in
     (omega (arith, length_varint16 number), omega arith)

@@ -1,5 +1,5 @@
 -- `cases::case_file::name_ends_part` meets its contract. Assumes nothing.
-use mathlib.Core.Path.{ap, ap₂, ◌∙◌}
+use mathlib.Core.Path.{ap, ◌∙◌}
 use Prim.Native.Nat.{ℕ, ◌*◌}
 use Rattle.base.specs.Lists.{part}
 use Rattle.cases.proofs.case_file.name_ends_part.Goals as goal
@@ -8,5 +8,4 @@ pub returns : goal.returns
 returns c =
     let bytes = c.args.bytes.now in
     c.bytes_from.ensures
-    ∙ ap₂ (λ (from count : ℕ). part bytes from count) c.name_ends_start.ensures.0
-    (ap (λ (k : ℕ). 4 * k) c.size32.ensures.0)
+    ∙ ap (λ (from : ℕ). part bytes from (4 * c.args.header.names_stored)) c.name_ends_start.ensures.0

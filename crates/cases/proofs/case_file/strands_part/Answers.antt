@@ -1,5 +1,5 @@
 -- `cases::case_file::strands_part` meets its contract. Assumes nothing.
-use mathlib.Core.Path.{ap₂, ◌∙◌}
+use mathlib.Core.Path.{ap, ◌∙◌}
 use Prim.Native.Nat.{ℕ}
 use Rattle.base.specs.Lists.{part}
 use Rattle.cases.proofs.case_file.strands_part.Goals as goal
@@ -8,5 +8,4 @@ pub returns : goal.returns
 returns c =
     let bytes = c.args.bytes.now in
     c.bytes_from.ensures
-    ∙ ap₂ (λ (from count : ℕ). part bytes from count) c.strands_start.ensures.0
-    c.size32.ensures.0
+    ∙ ap (λ (from : ℕ). part bytes from (c.args.header.strands)) c.strands_start.ensures.0

@@ -6,4 +6,4 @@ use Rattle.corpus.proofs.case_files.run_cases.Goals as goal
 
 pub loop-index-init : goal.loop-index-init
 loop-index-init g c =
-    counted-length c.args.file.now _ (sym c.read_count.ensures ∙ c.in-Found.is)
+    counted-length c.args.file.now _ (sym c.read_count.ensures ∙ c.in-Some.is)

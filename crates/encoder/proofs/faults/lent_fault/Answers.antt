@@ -4,16 +4,17 @@ use mathlib.Core.Path.{sym, ◌∙◌}
 use borrow.Author.Tests.{lt-ltb, le-ltb}
 use Rattle.base.specs.Answer.{checked}
 use Rattle.format.specs.EncodeAnswer.{encode_faults, read_count_too_large, candidate_count_wrong, read_ends_invalid, letter_invalid}
+use Rattle.dna.specs.Refused.{number_of, refusal_number}
 use Rattle.dna_writer.specs.Lent.{lent_number}
 use Rattle.encoder.proofs.faults.lent_fault.Goals as goal
 
 pub returns-then-reference_size_wrong : goal.returns-then-reference_size_wrong
-unfolding lent_number checked encode_faults
+unfolding number_of refusal_number lent_number checked encode_faults
 returns-then-reference_size_wrong c =
     simp (sym c.reference_size_wrong.ensures ∙ c.if-reference_size_wrong.true)
 
 pub returns-then-reads-gt-MAX_READS : goal.returns-then-reads-gt-MAX_READS
-unfolding lent_number checked encode_faults read_count_too_large
+unfolding number_of refusal_number lent_number checked encode_faults read_count_too_large
 returns-then-reads-gt-MAX_READS c =
     simp (
       sym c.reference_size_wrong.ensures ∙ c.if-reference_size_wrong.false,
@@ -21,7 +22,7 @@ returns-then-reads-gt-MAX_READS c =
     )
 
 pub returns-then-candidate_count_wrong : goal.returns-then-candidate_count_wrong
-unfolding lent_number checked encode_faults read_count_too_large candidate_count_wrong
+unfolding number_of refusal_number lent_number checked encode_faults read_count_too_large candidate_count_wrong
 returns-then-candidate_count_wrong c =
     simp (
       sym c.reference_size_wrong.ensures ∙ c.if-reference_size_wrong.false,
@@ -30,7 +31,7 @@ returns-then-candidate_count_wrong c =
     )
 
 pub returns-then-read_ends_invalid : goal.returns-then-read_ends_invalid
-unfolding lent_number checked encode_faults read_count_too_large candidate_count_wrong read_ends_invalid
+unfolding number_of refusal_number lent_number checked encode_faults read_count_too_large candidate_count_wrong read_ends_invalid
 returns-then-read_ends_invalid c =
     simp (
       sym c.reference_size_wrong.ensures ∙ c.if-reference_size_wrong.false,
@@ -40,7 +41,7 @@ returns-then-read_ends_invalid c =
     )
 
 pub returns-then-letter_invalid : goal.returns-then-letter_invalid
-unfolding lent_number checked encode_faults read_count_too_large candidate_count_wrong read_ends_invalid letter_invalid
+unfolding number_of refusal_number lent_number checked encode_faults read_count_too_large candidate_count_wrong read_ends_invalid letter_invalid
 returns-then-letter_invalid c =
     simp (
       sym c.reference_size_wrong.ensures ∙ c.if-reference_size_wrong.false,
@@ -51,7 +52,7 @@ returns-then-letter_invalid c =
     )
 
 pub returns : goal.returns
-unfolding lent_number checked encode_faults read_count_too_large candidate_count_wrong read_ends_invalid letter_invalid
+unfolding number_of refusal_number lent_number checked encode_faults read_count_too_large candidate_count_wrong read_ends_invalid letter_invalid
 returns c =
     simp (
       sym c.reference_size_wrong.ensures ∙ c.if-reference_size_wrong.false,

@@ -10,26 +10,22 @@ use Rattle.dna.specs.Reference.{alphabet}
 use Rattle.encoder.proofs.FaultLaws.{letters_turn, flag-shown}
 use Rattle.encoder.proofs.faults.letter_invalid.Goals as goal
 
-pub loop-i-init : goal.loop-i-init
+pub loop-letter-init : goal.loop-letter-init
 unfolding any
-loop-i-init c =
-    search rules
+loop-letter-init c = search rules
 
-pub loop-i-preserved : goal.loop-i-preserved
-loop-i-preserved c =
-    let l = c.loop-i in
-    let letters = c.args.letters.now in (
-      omega arith,
-      c.larger-invalid.ensures
-          ∙ ap (max l.invalid) c.no_letter.ensures
-          ∙ letters_turn letters l.i l.invalid (omega arith) l.invariant.1,
-    )
+pub loop-letter-preserved : goal.loop-letter-preserved
+loop-letter-preserved c =
+    let l = c.loop-letter in
+    c.max-invalid.ensures
+    ∙ ap (max l.invalid) c.no_letter.ensures
+    ∙ letters_turn c.args.letters.now l.letter-index l.invalid (omega arith) l.invariant
 
 pub returns : goal.returns
 returns c =
-    let l = c.loop-i in
+    let l = c.loop-letter in
     let letters = c.args.letters.now in
-    let all : l.i ≡ length letters = omega arith in
-    flag-shown _ l.invalid l.invariant.1
+    let all : l.letter-index ≡ length letters = omega arith in
+    flag-shown _ l.invalid l.invariant
     ∙ ap (λ (k : ℕ). any (λ letter. not (member letter alphabet)) (take k letters)) all
     ∙ ap (any (λ letter. not (member letter alphabet))) (take-length letters)

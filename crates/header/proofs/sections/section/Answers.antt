@@ -28,17 +28,17 @@ begins-there place start e = omega arith
 
 pub overflow_add-result : goal.overflow_add-result
 overflow_add-result c =
-    let right = span-found _ _ _ c.section_span-span.ensures in
+    let right = span-found _ _ _ c.section_span-offset.ensures in
     omega (arith, right.inside)
 
 pub slice_bounds-result-end : goal.slice_bounds-result-end
 slice_bounds-result-end c =
-    let right = span-found _ _ _ c.section_span-span.ensures in
+    let right = span-found _ _ _ c.section_span-offset.ensures in
     omega (arith, right.inside)
 
 pub returns : goal.returns
 returns c =
-    let span = c.section_span-span in
+    let span = c.section_span-offset in
     let right = span-found _ _ _ span.ensures in (
       take_part _ span.result.offset span.result.size ∙ right.stands,
       (refl, begins-there _ _ (ap (λ (s : format.Span). s.offset) span.ensures)),

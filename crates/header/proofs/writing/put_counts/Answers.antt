@@ -10,7 +10,8 @@ pub returns : goal.returns
 unfolding count_bytes
 returns c =
     let a = c.args in
-    let sized = length-count_bytes a.flags a.size a.count a.id in
+    let f = a.fields in
+    let sized = length-count_bytes f.flags f.l_read f.n_reads f.b_id in
     let p0 = all_left a.out.now 42 22 _ sized (omega arith) in
     let p1 = number_next 4 _ _ p0 c.put_u32.ensures in
     let p2 = number_next 4 _ _ p1 c.put_u32-2.ensures in

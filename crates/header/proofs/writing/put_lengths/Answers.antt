@@ -10,7 +10,8 @@ pub returns : goal.returns
 unfolding length_bytes
 returns c =
     let a = c.args in
-    let sized = length-length_bytes a.dna a.names a.sizes a.ns in
+    let f = a.fields in
+    let sized = length-length_bytes f.l_dna f.l_names f.l_size f.l_n in
     let p0 = all_left a.out.now 0 42 _ sized (omega arith) in
     let p1 = number_next 2 _ _ p0 c.put_u16.ensures in
     let p2 = number_next 4 _ _ p1 c.put_u32.ensures in

@@ -10,7 +10,8 @@ pub returns : goal.returns
 unfolding raw_bytes
 returns c =
     let a = c.args in
-    let sized = length-raw_bytes a.dna a.time in
+    let f = a.fields in
+    let sized = length-raw_bytes f.l_dna_raw f.c_time in
     let p0 = all_left a.out.now 64 57 _ sized (omega arith) in
     let p1 = number_next 4 _ _ p0 c.put_u32.ensures in
     let p2 = zeros_next 5 _ p1 c.put_zeros.ensures in

@@ -1,33 +1,31 @@
-use mathlib.Core.Path.{◌≡◌, refl, sym, ap, ◌∙◌}
-use Prim.Native.Nat.{ℕ}
+-- `header::writing::put_zeros` meets its contract. Assumes nothing.
+use mathlib.Core.Path.{◌≡◌, refl, ap, ◌∙◌}
+use Prim.Native.Nat.{ℕ, zero, suc, ◌+◌, ◌-◌, ◌≤◌}
 use native.Mathlib.Omega.{arith}
-use lib.ListN.{length-set}
-use borrow.Author.Rules.{rules}
-use Rattle.base.proofs.PasteLaws.{pasted_nil, pasted_turn}
+use mathlib.Core.List.{List, ◌∷◌}
+use lib.ListN.{length, take, drop, replicate, length-drop}
+use lib.Seq.{length-take-le}
+use Rattle.base.proofs.ListLaws.{length-build}
+use Rattle.base.proofs.SliceLaws.{pasted_mid}
 use Rattle.base.specs.Lists.{build}
-use Rattle.base.specs.Paste.{pasted}
 use Rattle.header.specs.WrittenHeader.{zeros}
 use Rattle.header.proofs.writing.put_zeros.Goals as goal
 
-pub loop-k-init : goal.loop-k-init
-unfolding zeros build
-loop-k-init c =
-    let a = c.args in
-    (search rules, sym (pasted_nil a.out.now a.at), search rules)
+replicate-build : (count : ℕ) → replicate {A = ℕ} count 0 ≡ build count (λ k. 0)
+unfolding build
+replicate-build zero = refl
+replicate-build (suc count) = ap (λ (rest : List ℕ). 0 ∷ rest) (replicate-build count)
 
-pub loop-k-preserved : goal.loop-k-preserved
-unfolding zeros
-loop-k-preserved c =
-    let a = c.args in
-    let l = c.loop-k in (
-      omega arith,
-      pasted_turn a.out.now a.at (λ j. 0) l.out l.k 0 (omega arith) l.invariant.1 refl,
-      simp length-set l.invariant.2,
-    )
+length-mid : (out : List ℕ) (at count : ℕ) → at + count ≤ length out
+    → length (take (at + count - at) (drop at out)) ≡ count
+length-mid out at count fits =
+    length-take-le _ (drop at out) (omega (arith, length-drop at out)) ∙ omega arith
 
 pub returns : goal.returns
+unfolding zeros
 returns c =
     let a = c.args in
-    let l = c.loop-k in
-    let e : l.k ≡ a.count = omega arith in
-    l.invariant.1 ∙ ap (λ (k : ℕ). pasted a.out.now a.at (zeros k)) e
+    let filled = c.fill.ensures.after (λ y e. e)
+    ∙ ap (λ (n : ℕ). replicate {A = ℕ} n 0) (length-mid a.out.now a.at a.count c.requires)
+    ∙ replicate-build a.count in
+    pasted_mid a.at _ a.out.now (zeros a.count) filled (length-build a.count (λ k. 0) ∙ omega arith)

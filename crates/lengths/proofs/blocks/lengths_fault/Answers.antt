@@ -2,20 +2,18 @@
 -- and the block's size section. Assumes nothing.
 -- The number by what was read is that of the block.
 use mathlib.Core.Path.{◌≡◌, ap, ◌∙◌}
-use Prim.Native.Nat.{ℕ, ◌≤◌}
+use Prim.Native.Nat.{ℕ}
 use mathlib.Core.Bool.{Bool}
 use mathlib.Core.List.{List}
-use lib.ListN.{length}
 use Rattle.base.proofs.SignedLaws.{carried}
 use Rattle.base.specs.Numbers.{non_negative}
 use Rattle.format.proofs.SectionLaws.{accepted-table, accepted-section}
-use Rattle.format.specs.Header.{table_length, header_of, flag_set, same_length_flag, read_count}
+use Rattle.format.specs.Header.{header_of, flag_set, same_length_flag, read_count}
 use Rattle.format.specs.Sections.{section_of, size_number}
 use Rattle.format.specs.BlockAnswer.{lengths_answer}
 use Rattle.dna.specs.SizesAt.{lengths_given}
 use Rattle.lengths.specs.Given.{lengths_found, lengths_number}
 use Rattle.lengths.proofs.blocks.lengths_fault.Goals as goal
-use Rattle.lengths.proofs.blocks.lengths_fault.Goals.{After-section-sizes}
 
 number_read : (input section : List ℕ) (fixed : Bool) (each reads raw number : ℕ)
     → number ≡ lengths_number raw (lengths_found (lengths_given fixed each reads section))
@@ -30,25 +28,9 @@ unfolding lengths_answer
 number_read input section fixed each reads raw number judged sections flags lread count size =
     cc
 
--- The table of the block is there.
-table-there : (c : After-section-sizes) → table_length ≤ length c.args.input.now
-table-there c = accepted-table _ c.requires
-
-pub same_length-fixed-requires : goal.same_length-fixed-requires
-same_length-fixed-requires c =
-    table-there (goal.at.same_length-fixed-requires c).After-section-sizes
-
-pub read_count-reads-requires : goal.read_count-reads-requires
-read_count-reads-requires c =
-    table-there (goal.at.read_count-reads-requires c).After-section-sizes
-
-pub l_read-requires : goal.l_read-requires
-l_read-requires c =
-    table-there (goal.at.l_read-requires c).After-section-sizes
-
-pub raw_dna_size-requires : goal.raw_dna_size-requires
-raw_dna_size-requires c =
-    table-there (goal.at.raw_dna_size-requires c).After-section-sizes
+pub invariant_of-table : goal.invariant_of-table
+invariant_of-table c =
+    record { there = accepted-table _ c.requires }
 
 pub returns : goal.returns
 returns c =

@@ -1,9 +1,7 @@
 -- `lengths::write::all_equal` meets its contract. The loop's invariant: all are
 -- equal exactly if no length from i on differs from the first. Assumes nothing.
 use mathlib.Core.Path.{◌≡◌}
-use Prim.Native.Nat.{◌-◌}
 use mathlib.Core.Bool.{not}
-use lib.ListN.{length}
 use Rattle.base.specs.Lists.{steps_from}
 use Rattle.format.specs.RuleBlock.{all_equal}
 use Rattle.lengths.proofs.EqualLaws.{others_from}
@@ -12,7 +10,3 @@ use Rattle.lengths.proofs.write.all_equal.Given as goal
 abbrev pub invariant-loop-i : goal.invariant-loop-i
 invariant-loop-i l =
     all_equal (steps_from 0 l.ends) ≡ not (others_from (steps_from 0 l.ends) l.first l.i)
-
-abbrev pub decreases-loop-i : goal.decreases-loop-i
-decreases-loop-i l =
-    length l.ends - l.i

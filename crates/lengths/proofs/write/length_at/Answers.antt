@@ -9,6 +9,6 @@ use Rattle.lengths.proofs.write.length_at.Goals as goal
 pub returns : goal.returns
 returns c =
     let a = c.args in
-    c.difference.ensures
+    c.saturating_sub.ensures
     ∙ ap (λ (low : ℕ). get_or a.ends.now a.i 0 - low) c.end_before.ensures
     ∙ sym (step-at a.ends.now a.i (omega arith))

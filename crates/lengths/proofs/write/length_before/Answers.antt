@@ -1,6 +1,7 @@
 -- `lengths::write::length_before` meets its contract: none, or the length of the read before.
 -- Assumes nothing.
-use mathlib.Core.Path.{◌∙◌}
+use mathlib.Core.Path.{ap, ◌∙◌}
+use Rattle.std.specs.Prelude.{Some}
 use Rattle.lengths.proofs.FormLaws.{length_first, length_later}
 use Rattle.lengths.proofs.write.length_before.Goals as goal
 
@@ -12,6 +13,5 @@ returns-then-i-eq0 c =
 pub returns : goal.returns
 returns c =
     let a = c.args in
-    c.wide64.ensures.0
-    ∙ c.length_at.ensures
+    ap Some c.length_at.ensures
     ∙ length_later a.ends.now a.i c.if-i-eq0.false

@@ -3,28 +3,29 @@ use mathlib.Core.Path.{◌≡◌, sym, ap, ◌∙◌}
 use Prim.Native.Nat.{◌<◌}
 use native.Mathlib.Omega.{arith}
 use lib.ListN.{length}
-use Rattle.lengths.proofs.FormLaws.{length_byte}
+use Rattle.std.specs.Prelude.{Some}
+use Rattle.lengths.proofs.FormLaws.{same_test, other_test, length_byte}
 use Rattle.lengths.proofs.WrittenSize.{write_same, write_byte, words-bytes, write_words}
 use Rattle.lengths.proofs.write.put_size.Goals as goal
-use Rattle.lengths.proofs.write.put_size.Goals.{Else-wide64-previous, Then-size-lt-BYTE_LIMIT}
+use Rattle.lengths.proofs.write.put_size.Goals.{Else-eq, Then-size-lt-BYTE_LIMIT}
 
 -- Past the first test the length is not the one before.
-other : (c : Else-wide64-previous)
-    → c.args.size ≡ c.args.previous → ⊥
-other c e = c.if-wide64-previous.false (c.wide64.ensures.0 ∙ e)
+other : (c : Else-eq)
+    → c.args.previous ≡ Some c.args.size → ⊥
+other c = other_test _ _ (sym c.eq.ensures ∙ c.if-eq.false)
 
 -- A byte takes one.
 one : (c : Then-size-lt-BYTE_LIMIT) → c.args.writer.place
     < length c.args.out.now
 one c =
     let a = c.args in
-    omega (arith, length_byte a.previous a.size (other (goal.at.Then-size-lt-BYTE_LIMIT c).Else-wide64-previous) c.if-size-lt-BYTE_LIMIT.true)
+    omega (arith, length_byte a.previous a.size (other (goal.at.Then-size-lt-BYTE_LIMIT c).Else-eq) c.if-size-lt-BYTE_LIMIT.true)
 
-pub returns-then-wide64-previous : goal.returns-then-wide64-previous
-returns-then-wide64-previous c =
+pub returns-then-eq : goal.returns-then-eq
+returns-then-eq c =
     let a = c.args in
     write_same a.previous a.size a.writer a.out.now
-    (sym c.wide64.ensures.0 ∙ c.if-wide64-previous.true)
+    (same_test _ _ (sym c.eq.ensures ∙ c.if-eq.true))
 
 pub bounds-out-at : goal.bounds-out-at
 bounds-out-at c =
@@ -33,18 +34,18 @@ bounds-out-at c =
 pub returns-then-size-lt-BYTE_LIMIT : goal.returns-then-size-lt-BYTE_LIMIT
 returns-then-size-lt-BYTE_LIMIT c =
     let a = c.args in
-    write_byte a.previous a.size a.writer a.out.now (other (goal.at.returns-then-size-lt-BYTE_LIMIT c).Else-wide64-previous) c.if-size-lt-BYTE_LIMIT.true
+    write_byte a.previous a.size a.writer a.out.now (other (goal.at.returns-then-size-lt-BYTE_LIMIT c).Else-eq) c.if-size-lt-BYTE_LIMIT.true
     (one (goal.at.returns-then-size-lt-BYTE_LIMIT c).Then-size-lt-BYTE_LIMIT)
 
 pub put_words-requires : goal.put_words-requires
 put_words-requires c =
     let a = c.args in
-    let bytes = words-bytes a.previous a.size a.writer a.out.now (other (goal.at.put_words-requires c).Else-wide64-previous)
+    let bytes = words-bytes a.previous a.size a.writer a.out.now (other (goal.at.put_words-requires c).Else-eq)
     c.if-size-lt-BYTE_LIMIT.false in
     omega (arith, ap length bytes)
 
 pub returns : goal.returns
 returns c =
     let a = c.args in
-    write_words a.previous a.size a.writer a.out.now (other (goal.at.returns c).Else-wide64-previous)
+    write_words a.previous a.size a.writer a.out.now (other (goal.at.returns c).Else-eq)
     c.if-size-lt-BYTE_LIMIT.false _ _ c.put_words.ensures.0 c.put_words.ensures.1

@@ -1,61 +1,58 @@
 use mathlib.Core.Path.{◌≡◌, refl, sym, ◌∙◌}
+use mathlib.Core.List.{List}
 use Prim.Native.Nat.{ℕ, ◌+◌}
 use native.Mathlib.Omega.{arith}
-use Rattle.names.specs.Cursors.{places_wrong}
+use lib.ListN.{length}
+use Rattle.tokens.specs.NamesAt.{ends_wrong}
+use Rattle.names.specs.Cursors.{cursors_of}
 use Rattle.names.proofs.TableLaws.{place_of, place_first, place_next, place_inside}
-use Rattle.names.proofs.TableLaws.{end_wrong, end_right, ends_right}
+use Rattle.names.proofs.TableLaws.{end_wrong, end_right, ends_right, place-at}
 use Rattle.names.proofs.table.ends_wrong.Goals as goal
 
 pub loop-k-init : goal.loop-k-init
-unfolding places_wrong
 loop-k-init c =
-    let a = c.args in
-    (omega arith, place_first a.section.now a.columns, refl)
+    record { end = place_first c.args.section.now (length c.args.columns.now); right = refl }
 
 pub overflow_add-end-in-loop-k : goal.overflow_add-end-in-loop-k
 overflow_add-end-in-loop-k c =
-    let a = c.args in
-    let s = a.section.now in
-    let n : ℕ = a.columns in
+    let s : List ℕ = c.args.section.now in
+    let n : ℕ = length c.args.columns.now in
     let l = c.loop-k in
     omega (
       arith,
-      place_next s n l.k c.size64-end.result (omega arith) (c.size64-end.ensures.0 ∙
-          c.u64_at.ensures),
+      l.invariant.end,
+      place_next s n l.k c.size_of-end.result c.size_of-end.ensures,
       place_inside s n (l.k + 1),
+      c.requires.sizes,
     )
 
-pub returns-then-places-k : goal.returns-then-places-k
-returns-then-places-k c =
-    let a = c.args in
-    let s = a.section.now in
-    let n : ℕ = a.columns in
+pub returns-then-column-end : goal.returns-then-column-end
+unfolding ends_wrong
+returns-then-column-end c =
+    let s : List ℕ = c.args.section.now in
+    let n : ℕ = length c.args.columns.now in
     let l = c.loop-k in
-    sym (l.invariant.2 ∙ end_wrong s n a.places.now l.k (l.end + c.size64-end.result) (omega arith)
-    (omega (
-      arith,
-      place_next s n l.k c.size64-end.result (omega arith) (c.size64-end.ensures.0 ∙ c.u64_at.ensures),
-    )) c.if-places-k.true)
+    let next = place_next s n l.k c.size_of-end.result c.size_of-end.ensures in
+    sym (l.invariant.right
+    ∙ end_wrong s n (cursors_of c.args.columns.now) l.k _ (l.end + c.size_of-end.result) c.loop-k-test.true
+    (place-at c.args.columns.now l.k) (omega (arith, l.invariant.end, next)) c.if-column-end.true)
 
 pub loop-k-preserved : goal.loop-k-preserved
 loop-k-preserved c =
-    let a = c.args in
-    let s = a.section.now in
-    let n : ℕ = a.columns in
+    let s : List ℕ = c.args.section.now in
+    let n : ℕ = length c.args.columns.now in
     let l = c.loop-k in
-    let next : l.end + c.size64-end.result ≡ place_of s n (l.k + 1) =
-    omega (
-      arith,
-      place_next s n l.k c.size64-end.result (omega arith) (c.size64-end.ensures.0 ∙ c.u64_at.ensures),
-    ) in (
-      omega arith,
-      next,
-      l.invariant.2 ∙ end_right s n a.places.now l.k (l.end + c.size64-end.result) (omega arith) next c.if-places-k.false,
-    )
+    let next : l.end + c.size_of-end.result ≡ place_of s n (l.k + 1) =
+    omega (arith, l.invariant.end, place_next s n l.k c.size_of-end.result c.size_of-end.ensures) in
+    record {
+      end = next;
+      right = l.invariant.right
+          ∙ end_right s n (cursors_of c.args.columns.now) l.k _ (l.end + c.size_of-end.result) c.loop-k-test.true
+          (place-at c.args.columns.now l.k) next c.if-column-end.false;
+    }
 
 pub returns : goal.returns
+unfolding ends_wrong
 returns c =
-    let a = c.args in
-    let l = c.loop-k in
-    sym (l.invariant.2 ∙ ends_right a.section.now a.columns a.places.now l.k (omega
-    arith))
+    sym (c.loop-k.invariant.right
+    ∙ ends_right c.args.section.now (length c.args.columns.now) (cursors_of c.args.columns.now) c.loop-k.k c.loop-k-test.false)

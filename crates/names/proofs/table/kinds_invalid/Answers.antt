@@ -1,48 +1,34 @@
-use mathlib.Core.Path.{refl, sym, ap, ◌∙◌}
-use Prim.Native.Nat.{ℕ}
-use native.Mathlib.Omega.{arith}
-use Rattle.base.specs.Lists.{part}
+use mathlib.Core.Path.{◌≡◌, sym, ap, ◌∙◌}
+use mathlib.Core.Bool.{not}
+use mathlib.Core.List.{List}
+use Prim.Native.Nat.{ℕ, ◌+◌}
+use Rattle.std.specs.Prelude.{slice_range}
+use Rattle.base.specs.Lists.{any, part}
 use Rattle.base.proofs.AnyLaws.{any_found, any_passed, any_past}
 use Rattle.tokens.specs.ColumnsAt.{kind_invalid}
-use Rattle.names.proofs.TableLaws.{length_kinds, kind_at}
+use Rattle.names.proofs.TableLaws.{kinds_range}
 use Rattle.names.proofs.table.kinds_invalid.Goals as goal
 
-pub loop-k-init : goal.loop-k-init
-loop-k-init c =
-    (omega arith, refl)
+-- The loop's bytes are the types.
+kinds : (section : List ℕ) (count : ℕ)
+    → any kind_invalid (part section 4 count) ≡ any kind_invalid (slice_range section 4 (4 + count))
+kinds section count = ap (any kind_invalid) (sym (kinds_range section count))
 
-pub returns-then-kind_invalid : goal.returns-then-kind_invalid
-returns-then-kind_invalid c =
-    let s = c.args.section.now in
-    let n : ℕ = c.args.columns in
-    let l = c.loop-k in
-    sym (l.invariant.1 ∙ any_found kind_invalid (part s 4 n) l.k 0 (omega (
-      arith,
-      length_kinds s n
-          (omega arith),
-    ))
-    (ap kind_invalid (kind_at s n l.k (omega arith)) ∙ sym c.kind_invalid.ensures ∙ c.if-kind_invalid.true))
+pub returns-then-is_none : goal.returns-then-is_none
+returns-then-is_none c =
+    let l = c.loop-byte in
+    sym (kinds c.args.section.now c.args.count ∙ l.invariant
+    ∙ any_found kind_invalid _ l.byte-index 0 c.loop-byte-test.true
+    (sym c.of.ensures.invalid ∙ ap not c.if-is_none.ensures))
 
-pub loop-k-preserved : goal.loop-k-preserved
-loop-k-preserved c =
-    let s = c.args.section.now in
-    let n : ℕ = c.args.columns in
-    let l = c.loop-k in (
-      omega arith,
-      l.invariant.1 ∙ any_passed kind_invalid (part s 4 n) l.k 0 (omega (
-        arith,
-        length_kinds s n (omega arith),
-      ))
-          (ap kind_invalid (kind_at s n l.k (omega arith)) ∙ sym c.kind_invalid.ensures ∙ c.if-kind_invalid.false),
-    )
+pub loop-byte-preserved : goal.loop-byte-preserved
+loop-byte-preserved c =
+    let l = c.loop-byte in
+    l.invariant ∙ any_passed kind_invalid _ l.byte-index 0 c.loop-byte-test.true
+    (sym c.of.ensures.invalid ∙ ap not c.if-is_none.ensures)
 
 pub returns : goal.returns
 returns c =
-    let s = c.args.section.now in
-    let n : ℕ = c.args.columns in
-    let l = c.loop-k in
-    sym (l.invariant.1 ∙ any_past kind_invalid (part s 4 n) l.k (omega (
-      arith,
-      length_kinds s n (omega
-          arith),
-    )))
+    let l = c.loop-byte in
+    sym (kinds c.args.section.now c.args.count ∙ l.invariant
+    ∙ any_past kind_invalid _ l.byte-index c.loop-byte-test.false)

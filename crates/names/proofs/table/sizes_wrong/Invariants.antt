@@ -1,16 +1,10 @@
 -- `names::table::sizes_wrong` meets its contract. The loop's invariant: what is left begins where
 -- column k does. Assumes nothing.
 use mathlib.Core.Path.{◌≡◌}
-use Prim.Native.Nat.{◌+◌, ◌-◌, ◌≤◌}
+use Prim.Native.Nat.{◌+◌}
 use lib.ListN.{length}
 use Rattle.names.proofs.TableLaws.{place_of}
 use Rattle.names.proofs.table.sizes_wrong.Given as goal
 
 abbrev pub invariant-loop-k : goal.invariant-loop-k
-invariant-loop-k l =
-    (l.k ≤ l.columns) × (l.left + place_of l.section l.columns l.k ≡
-    length l.section)
-
-abbrev pub decreases-loop-k : goal.decreases-loop-k
-decreases-loop-k l =
-    l.columns - l.k
+invariant-loop-k l = l.left + place_of l.section l.count l.k ≡ length l.section

@@ -2,111 +2,111 @@
 use mathlib.Core.Path.{◌≡◌, sym, ap, ◌∙◌}
 use mathlib.Core.Bool.{Bool, cond}
 use mathlib.Core.List.{List}
-use Prim.Native.Nat.{ℕ, ◌≤◌, ◌<◌}
-use native.Mathlib.Omega.{arith}
+use Prim.Native.Nat.{ℕ}
 use native.Mathlib.Nat.{zero-add}
-use lib.ListN.{length, get_or, drop}
-use Rattle.base.specs.Lists.{index_of}
+use native.Mathlib.Omega.{arith}
+use lib.ListN.{length, drop}
+use Rattle.std.specs.Prelude.{None, Some}
 use Rattle.base.specs.Decimal.{decimal}
-use Rattle.tokens.specs.ColumnsAt.{Cursor, number_at}
-use Rattle.names.specs.Cursors.{cursor_of, token_size, number_or}
+use Rattle.tokens.specs.ColumnsAt.{Cursor, string_length, number_at}
+use Rattle.names.specs.declared.column.Column.{Column}
+use Rattle.names.specs.declared.column.Kind.TheVariants.{Strings}
+use Rattle.names.specs.Cursors.{byte_of, cursor_of, string_size, token_size}
+use Rattle.names.proofs.KindLaws.{byte-strings, byte-other}
 use Rattle.names.proofs.StringLaws.{string-token, scan-index}
-use Rattle.names.proofs.RisingLaws.{number_refused, number_found, number_right, number-token}
-use Rattle.names.proofs.RisingLaws.{number-other}
+use Rattle.names.proofs.RisingLaws.{number_right, number_refused, number_found, number-token, number-other}
 use Rattle.names.proofs.MovedLaws.{moved_string, moved_number}
 use Rattle.names.proofs.token.judge_token.Goals as goal
 
-pub overflow_add-places : goal.overflow_add-places
-overflow_add-places c =
-    omega (arith, c.string_size-size.ensures.1 c.if-size-gt0.true)
-
-pub overflow_add-places-then-size-gt0 : goal.overflow_add-places-then-size-gt0
-overflow_add-places-then-size-gt0 c =
-    omega (arith, c.string_size-size.ensures.1 c.if-size-gt0.true)
-
-pub returns-then-size-gt0 : goal.returns-then-size-gt0
+-- The next token of a column of strings is a string.
+string : (section : List ℕ) (first digits : Bool) (column : Column) → column.kind ≡ Strings
+    → token_size section first digits (cursor_of column)
+    ≡ string_size digits 0 (drop column.place section)
 unfolding cursor_of
-returns-then-size-gt0 c =
+string section first digits column e =
+    string-token section first digits (cursor_of column) (byte-strings column.kind e)
+
+pub returns-in_err-size-clause-size : goal.returns-in_err-size-clause-size
+returns-in_err-size-clause-size c =
+    let a = c.args in
+    c.from_residual.ensures
+    ∙ sym (string a.section.now a.first a.digits a.column.now c.in-Strings.is
+    ∙ sym c.string_size.ensures.size ∙ c.in_err-size.was)
+
+pub returns-in-Strings : goal.returns-in-Strings
+unfolding cursor_of string_length
+returns-in-Strings c =
     let a = c.args in
     let s : List ℕ = a.section.now in
-    let e = c.string_size-size.ensures.0 in
-    let size : ℕ = c.string_size-size.result in
-    let bytes : List ℕ = drop (get_or a.places.now a.k 0) s in (
-      e ∙ sym (string-token s a.first a.digits (cursor_of s a.places.now a.values.now
-          a.k) c.if-kind-eq-STRINGS.true),
-      λ h. moved_string s a.places.now a.values.now a.first a.k (omega arith) size c.if-kind-eq-STRINGS.true
-          (e ∙ scan-index a.digits 0 bytes (omega (arith, e)) ∙ zero-add (index_of 0 bytes)),
-    )
-
-pub returns-else-size-gt0 : goal.returns-else-size-gt0
-unfolding cursor_of
-returns-else-size-gt0 c =
-    let a = c.args in
-    let s : List ℕ = a.section.now in (
-      c.string_size-size.ensures.0 ∙ sym (string-token s a.first a.digits (cursor_of s a.places.now a.values.now a.k) c.if-kind-eq-STRINGS.true),
-      λ h. absurd (omega arith),
-    )
+    let column : Column = a.column.now in
+    let is = sym c.string_size.ensures.size ∙ c.in_ok-size.was in
+    record {
+      size = sym (string s a.first a.digits column c.in-Strings.is ∙ is);
+      moved = λ some.
+          moved_string s a.first (byte_of column.kind) column.place column.value c.in_ok-size.size
+          (byte-strings column.kind c.in-Strings.is)
+          (scan-index a.digits 0 (drop column.place s) c.in_ok-size.size is ∙ zero-add _);
+    }
 
 pub returns-then-not-digits : goal.returns-then-not-digits
 unfolding cursor_of
 returns-then-not-digits c =
     let a = c.args in
-    let s : List ℕ = a.section.now in
-    let cursor : Cursor = cursor_of s a.places.now a.values.now a.k in (
-      sym (ap (λ (d : Bool). token_size s a.first d cursor) c.if-not-digits.true
-          ∙ number-other s a.first cursor c.if-kind-eq-STRINGS.false),
-      λ h. absurd (omega arith),
-    )
+    let cursor : Cursor = cursor_of a.column.now in
+    record {
+      size = sym (ap (λ (d : Bool). token_size a.section.now a.first d cursor) c.if-not-digits.true
+          ∙ number-other a.section.now a.first cursor (byte-other a.column.now.kind c.in_default.not-Strings));
+      moved = λ some. absurd (cc some);
+    }
 
-pub returns-then-number-gt-MAX_NUMBER : goal.returns-then-number-gt-MAX_NUMBER
+pub returns-in_err-number : goal.returns-in_err-number
 unfolding cursor_of
-returns-then-number-gt-MAX_NUMBER c =
-    let a = c.args
-    in
-    let s : List ℕ = a.section.now in
-    let cursor : Cursor = cursor_of s a.places.now a.values.now a.k in
-    let big : 999_999_999_999_999_999 < number_or s a.first cursor = omega (
-      arith,
-      c.number_at-number.ensures,
-    ) in (
-      sym (ap (λ (d : Bool). token_size s a.first d cursor) c.if-not-digits.false ∙ number-token s a.first cursor c.if-kind-eq-STRINGS.false
-          ∙ ap (λ (t : Bool). cond t 0 (length (decimal (number_at s a.first cursor))))
-          (number_refused
-          s a.first cursor big)),
-      λ h. absurd (omega arith),
-    )
-
-pub overflow_add-places-2 : goal.overflow_add-places-2
-unfolding cursor_of
-overflow_add-places-2 c =
+returns-in_err-number c =
     let a = c.args in
     let s : List ℕ = a.section.now in
-    let cursor : Cursor = cursor_of s a.places.now a.values.now a.k in
-    let small : number_or s a.first cursor ≤ 999_999_999_999_999_999 = omega (
-      arith,
-      c.number_at-number.ensures,
-    ) in
-    omega (
-      arith,
-      (number_right s a.first cursor (number_found s a.first cursor small).0).0,
-      c.number_width.ensures.0,
-    )
+    let cursor : Cursor = cursor_of a.column.now in
+    let wrong = number_refused s a.first cursor (sym c.number_at.ensures ∙ c.in_err-number.was) in
+    record {
+      size = c.from_residual-in_err-number.ensures
+          ∙ sym (ap (λ (d : Bool). token_size s a.first d cursor) c.if-not-digits.false
+          ∙ number-token s a.first cursor (byte-other a.column.now.kind c.in_default.not-Strings)
+          ∙ ap (λ (t : Bool). cond t None (Some (length (decimal (number_at s a.first cursor))))) wrong);
+      moved = λ some. absurd (let none = rw c.from_residual-in_err-number.ensures at some in cc none);
+    }
+
+pub overflow_add-column-2 : goal.overflow_add-column-2
+unfolding cursor_of
+overflow_add-column-2 c =
+    let a = c.args in
+    let s : List ℕ = a.section.now in
+    let cursor : Cursor = cursor_of a.column.now in
+    let found = number_found s a.first cursor c.in_ok-number.number (sym c.number_at.ensures ∙ c.in_ok-number.was) in
+    omega (arith, (number_right s a.first cursor found.0).0, c.number_width.ensures.0)
+
+pub decimal_length-requires : goal.decimal_length-requires
+decimal_length-requires c =
+    let a = c.args in
+    let s : List ℕ = a.section.now in
+    let cursor : Cursor = cursor_of a.column.now in
+    let found = number_found s a.first cursor c.in_ok-number.number (sym c.number_at.ensures ∙ c.in_ok-number.was) in
+    omega (arith, (number_right s a.first cursor found.0).1, found.1)
 
 pub returns : goal.returns
 unfolding cursor_of
 returns c =
     let a = c.args in
     let s : List ℕ = a.section.now in
-    let cursor : Cursor = cursor_of s a.places.now a.values.now a.k in
-    let is = c.number_at-number.ensures in
-    let small : number_or s a.first cursor ≤ 999_999_999_999_999_999 = omega (arith, is) in
-    let found = number_found s a.first cursor small in
-    let number : ℕ = c.number_at-number.result in
-    let same : number ≡ number_at s a.first cursor = is ∙ sym found.1 in (
-      c.decimal_length.ensures
-          ∙ ap (λ (n : ℕ). length (decimal n)) same
-          ∙ sym (ap (λ (d : Bool). token_size s a.first d cursor) c.if-not-digits.false ∙ number-token s a.first cursor c.if-kind-eq-STRINGS.false
-          ∙ ap (λ (t : Bool). cond t 0 (length (decimal (number_at s a.first cursor)))) found.0),
-      λ h. moved_number s a.places.now a.values.now a.first a.k (omega arith) c.number_width.result number (omega arith) c.if-kind-eq-STRINGS.false
-          c.number_width.ensures.0 same,
-    )
+    let column : Column = a.column.now in
+    let cursor : Cursor = cursor_of column in
+    let numbers = byte-other column.kind c.in_default.not-Strings in
+    let found = number_found s a.first cursor c.in_ok-number.number (sym c.number_at.ensures ∙ c.in_ok-number.was) in
+    record {
+      size = ap (λ (n : ℕ). Some n)
+          (c.decimal_length.ensures ∙ ap (λ (n : ℕ). length (decimal n)) (sym found.1))
+          ∙ sym (ap (λ (d : Bool). token_size s a.first d cursor) c.if-not-digits.false
+          ∙ number-token s a.first cursor numbers
+          ∙ ap (λ (t : Bool). cond t None (Some (length (decimal (number_at s a.first cursor))))) found.0);
+      moved = λ some.
+          moved_number s a.first (byte_of column.kind) column.place column.value c.number_width.result
+          c.in_ok-number.number numbers c.number_width.ensures.0 (sym found.1);
+    }

@@ -1,102 +1,81 @@
-use mathlib.Core.Path.{◌≡◌, refl, ap, ◌∙◌}
+use mathlib.Core.Path.{◌≡◌, ap, ◌∙◌}
 use Prim.Native.Nat.{ℕ, ◌+◌, ◌*◌, ◌≤◌}
 use native.Mathlib.Omega.{arith}
-use lib.ListN.{get_or, length-set}
-use Rattle.base.specs.Lists.{total}
+use lib.ListN.{length}
+use Rattle.base.specs.Lists.{build, total}
 use Rattle.base.specs.Paste.{pasted}
-use Rattle.names_writer.specs.Steps.{column_size}
-use Rattle.names_writer.specs.Measured.{column_sizes}
-use Rattle.names_writer.proofs.RowLaws.{table_start, table_old, table_turn}
-use Rattle.names_writer.proofs.SizeLaws.{sizes_none, sizes_turn, column-size-most}
+use Rattle.names_writer.specs.Columns.{kind_of, size_of, column_at, column_kinds, column_sizes}
+use Rattle.names_writer.proofs.RowLaws.{table_start, table_turn}
+use Rattle.names_writer.proofs.SizeLaws.{total_turn, column-size-most}
 use Rattle.names_writer.proofs.measuring.put_sizes.Goals as goal
-use Rattle.names_writer.proofs.measuring.put_sizes.Goals.{After-column_size-size}
+use Rattle.names_writer.proofs.measuring.put_sizes.Goals.{After-size_of-size}
 
--- The size of column k.
-size_is : (c : After-column_size-size)
-    → c.column_size-size.result
-    ≡ column_size
-    (get_or c.args.kinds.now
-    c.loop-k.k 0)
-    (get_or c.args.sizes.now
-    c.loop-k.k 0)
-    c.args.reads
-unfolding column_sizes
-size_is c =
-    let l = c.loop-k in
-    c.column_size-size.ensures
-    ∙ ap (λ (n : ℕ). column_size (get_or c.args.kinds.now l.k 0) n c.args.reads)
-    (table_old c.args.sizes.now
-    (λ k. column_size (get_or c.args.kinds.now k 0) (get_or c.args.sizes.now k 0) c.args.reads)
-    l.sizes l.k l.invariant.1 (omega (arith, c.requires.2)))
-
-size-most : (c : After-column_size-size) → c.column_size-size.result ≤ 12800000
+size-most : (c : After-size_of-size) → c.size_of-size.result ≤ 12800000
 size-most c =
-    let l = c.loop-k in
+    let a = c.args in
+    let k = c.loop-k.k in
     omega (
       arith,
-      size_is c,
-      column-size-most (get_or c.args.kinds.now l.k 0) (get_or c.args.sizes.now l.k 0)
-          c.args.reads (c.requires.4.each l.k (omega arith)) c.requires.3,
+      c.size_of-size.ensures,
+      column-size-most (kind_of a.columns.now k) (column_at a.columns.now k).size a.reads
+          (c.requires.small.1.each k (omega arith)) c.requires.small.0,
     )
 
 pub loop-k-init : goal.loop-k-init
-unfolding column_sizes
+unfolding build total
 loop-k-init c =
-    let a = c.args in (
-      omega arith,
-      table_start a.sizes.now
-          (λ k. column_size (get_or a.kinds.now k 0) (get_or a.sizes.now k 0) a.reads),
-      omega (arith, sizes_none a.kinds.now a.sizes.now a.reads),
-      omega arith,
-      refl,
-    )
-
-pub column_size-size-requires : goal.column_size-size-requires
-column_size-size-requires c =
-    c.requires.3
+    let a = c.args in
+    record {
+      kinds = table_start a.kinds.now (kind_of a.columns.now);
+      sizes = table_start a.sizes.now (size_of a.columns.now a.reads);
+      sum = omega arith;
+      most = omega arith;
+    }
 
 pub overflow_add-sum-in-loop-k : goal.overflow_add-sum-in-loop-k
 overflow_add-sum-in-loop-k c =
     omega (
       arith,
-      size-most (goal.at.overflow_add-sum-in-loop-k c).After-column_size-size,
-      c.loop-k.invariant.3,
+      size-most (goal.at.overflow_add-sum-in-loop-k c).After-size_of-size,
+      c.loop-k.invariant.most,
+      c.requires.room,
     )
 
 pub loop-k-preserved : goal.loop-k-preserved
-unfolding column_sizes
 loop-k-preserved c =
     let a = c.args in
     let l = c.loop-k in
-    let is = size_is (goal.at.loop-k-preserved c).After-column_size-size in (
-      omega arith,
-      table_turn a.sizes.now
-          (λ k. column_size (get_or a.kinds.now k 0) (get_or a.sizes.now k 0) a.reads)
-          l.sizes l.k l.invariant.1 (omega
-          (arith, c.requires.2))
-          c.column_size-size.result is,
-      omega (
-        arith,
-        is,
-        sizes_turn a.kinds.now a.sizes.now a.reads l.k,
-      ),
-      omega (arith, size-most (goal.at.loop-k-preserved c).After-column_size-size),
-      simp length-set l.invariant.4,
-    )
-
-pub shape_of-sizes : goal.shape_of-sizes
-shape_of-sizes c =
-    c.loop-k.invariant.4
+    record {
+      kinds =
+          table_turn a.kinds.now (kind_of a.columns.now) l.kinds l.k l.invariant.kinds
+          (omega (arith, c.requires.room)) c.from.result c.from.ensures;
+      sizes =
+          table_turn a.sizes.now (size_of a.columns.now a.reads) l.sizes l.k l.invariant.sizes
+          (omega (arith, c.requires.room)) c.size_of-size.result c.size_of-size.ensures;
+      sum =
+          omega (
+            arith,
+            c.size_of-size.ensures,
+            l.invariant.sum,
+            total_turn l.k (size_of a.columns.now a.reads),
+          );
+      most =
+          omega (
+            arith,
+            size-most (goal.at.loop-k-preserved c).After-size_of-size,
+            l.invariant.most,
+          );
+    }
 
 pub returns : goal.returns
+unfolding column_kinds column_sizes
 returns c =
     let a = c.args in
     let l = c.loop-k in
-    let e : l.k ≡ a.count = omega arith in (
-      l.invariant.1
-          ∙ ap (λ (n : ℕ). pasted a.sizes.now 0
-          (column_sizes a.kinds.now a.sizes.now a.reads n)) e,
-      l.invariant.2
-          ∙ ap (λ (n : ℕ). 4 + 9 * a.count
-          + total (column_sizes a.kinds.now a.sizes.now a.reads n)) e,
+    let e : l.k ≡ length a.columns.now = omega arith in (
+      l.invariant.kinds ∙ ap (λ (n : ℕ). pasted a.kinds.now 0 (build n (kind_of a.columns.now))) e,
+      l.invariant.sizes
+          ∙ ap (λ (n : ℕ). pasted a.sizes.now 0 (build n (size_of a.columns.now a.reads))) e,
+      l.invariant.sum
+          ∙ ap (λ (n : ℕ). 4 + 9 * length a.columns.now + total (build n (size_of a.columns.now a.reads))) e,
     )

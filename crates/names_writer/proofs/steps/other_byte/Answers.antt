@@ -1,31 +1,16 @@
-use mathlib.Core.Path.{sym, ap, ◌∙◌}
+-- `names_writer::steps::other_byte` meets its contract. Assumes nothing.
+use mathlib.Core.Path.{sym, ◌∙◌}
 use mathlib.Core.Bool.{not}
-use native.Mathlib.Omega.{arith}
-use Rattle.base.proofs.AnyLaws.{any_found, any_passed, any_past}
+use borrow.Author.Rules.{rules}
+use Rattle.std.proofs.lemmas.Iterator.{YieldsList-from_slice}
+use Rattle.std.proofs.lemmas.Iterator.Search.{any_from_yields_List}
+use Rattle.base.proofs.SliceLaws.{any_list}
 use Rattle.tokens.specs.Split.{is_digit}
 use Rattle.names_writer.proofs.steps.other_byte.Goals as goal
 
-pub returns-then-not-is_digit : goal.returns-then-not-is_digit
-returns-then-not-is_digit c =
-    let l = c.loop-i in
-    sym (l.invariant.1
-    ∙ any_found (λ byte. not (is_digit byte))
-    c.args.token.now l.i 0 (omega arith)
-    (ap not (sym c.is_digit.ensures ∙ c.if-not-is_digit.true)))
-
-pub loop-i-preserved : goal.loop-i-preserved
-loop-i-preserved c =
-    let l = c.loop-i in (
-      omega arith,
-      l.invariant.1
-          ∙ any_passed (λ byte. not (is_digit byte))
-          c.args.token.now l.i 0
-          (omega arith) (ap not (sym c.is_digit.ensures ∙ c.if-not-is_digit.false)),
-    )
-
 pub returns : goal.returns
+unfolding is_digit
 returns c =
-    let l = c.loop-i in
-    sym (l.invariant.1
-    ∙ any_past (λ byte. not (is_digit byte)) c.args.token.now l.i
-    (omega arith))
+    any_from_yields_List (λ byte. not (is_digit byte)) _ _ _ c.any.ensures.ran
+    (YieldsList-from_slice c.args.token.now cc) (λ x b q k. search rules)
+    ∙ sym (any_list (λ byte. not (is_digit byte)) c.args.token.now)

@@ -1,17 +1,11 @@
 -- `names_writer::table::put_lengths` meets its contract. Assumes nothing.
 use mathlib.Core.Path.{◌≡◌}
 use mathlib.Core.List.{flat_map}
-use Prim.Native.Nat.{◌-◌, ◌≤◌}
-use lib.ListN.{length, take}
+use lib.ListN.{take}
 use Rattle.base.specs.Numbers.{le_bytes}
 use Rattle.base.specs.Paste.{pasted}
 use Rattle.names_writer.proofs.table.put_lengths.Given as goal
 
 abbrev pub invariant-loop-k : goal.invariant-loop-k
 invariant-loop-k l =
-    (l.k ≤ l.count) × (l.out ≡ pasted l.initial.out l.at (flat_map (le_bytes 8) (take l.k l.sizes)))
-    × (length l.out ≡ length l.initial.out)
-
-abbrev pub decreases-loop-k : goal.decreases-loop-k
-decreases-loop-k l =
-    l.count - l.k
+    l.out ≡ pasted l.initial.out l.at (flat_map (le_bytes 8) (take l.k l.sizes))

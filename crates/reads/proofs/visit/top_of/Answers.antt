@@ -1,13 +1,12 @@
--- `reads::visit::top_of` meets its contract. Assumes nothing.
-use mathlib.Core.Path.{sym}
-use native.Mathlib.Omega.{arith}
+use mathlib.Core.Path.{sym, ◌∙◌}
+use lib.Dec.{eqb}
+use borrow.Author.Tests.{eqb-true, eqb-false}
+use Rattle.base.proofs.ListLaws.{by_test}
 use Rattle.dna.proofs.CountsMean.{top_of_31, top_of-others}
 use Rattle.reads.proofs.visit.top_of.Goals as goal
 
-pub returns-then-entries : goal.returns-then-entries
-returns-then-entries c =
-    sym (top_of_31 c.args.entries (omega (arith, c.if-entries.true)))
-
 pub returns : goal.returns
 returns c =
-    sym (top_of-others c.args.entries (λ e. omega (arith, e, c.if-entries.false)))
+    let n = c.args.entries in
+    by_test (eqb n 31) (λ t. c.from.ensures ∙ rw t (sym (top_of_31 n (eqb-true n 31 t))))
+    (λ t. c.from.ensures ∙ rw t (sym (top_of-others n (eqb-false n 31 t))))

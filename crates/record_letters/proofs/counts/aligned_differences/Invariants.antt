@@ -13,8 +13,7 @@ use Rattle.record_letters.proofs.counts.aligned_differences.Given as goal
 
 abbrev pub invariant-loop-k : goal.invariant-loop-k
 invariant-loop-k l =
-    (l.k ≤ l.layout.entry_count)
-    × (l.sum ≤ l.k)
+    (l.sum ≤ l.k)
     × (l.place ≤ 63 * l.k)
     × (any_outside l.aligned
     (places_from l.place (offsets_from l.section (l.layout.entries + l.k) (l.layout.entry_count - l.k)))
@@ -30,7 +29,3 @@ invariant-loop-k l =
     (n_positions (offsets_in l.section l.size l.layout)))
     l.place
     (entries_at l.section (l.layout.entries + l.k) (l.layout.entry_count - l.k)))
-
-abbrev pub decreases-loop-k : goal.decreases-loop-k
-decreases-loop-k l =
-    l.layout.entry_count - l.k

@@ -1,6 +1,6 @@
 -- `record_letters::counts::differences` meets its contract: by the kind. Assumes nothing.
 -- What is known of the record, by its kind.
-use mathlib.Core.Path.{◌≡◌, sym, ap, ap₂, subst, ◌∙◌}
+use mathlib.Core.Path.{refl, ◌≡◌, sym, ap, ap₂, subst, ◌∙◌}
 use Prim.Native.Nat.{ℕ, ◌+◌, ◌-◌, ◌≤◌}
 use native.Mathlib.Omega.{arith}
 use Rattle.dna.specs.Reference.{max_reference_bases}
@@ -11,7 +11,7 @@ use Rattle.record_letters.specs.Laid.{local_leftmost, LocalExact, EntriesLaid, P
 use Rattle.record_letters.proofs.CountLaws.{differences_of, no_perfect, no_raw, no_raw4}
 use Rattle.record_letters.proofs.CountLaws.{of_global, of_local}
 use Rattle.record_letters.proofs.counts.differences.Goals as goal
-use Rattle.record_letters.proofs.counts.differences.Goals.{After-size8, In-Global, In-Local}
+use Rattle.record_letters.proofs.counts.differences.Goals.{After-from, In-Global, In-Local}
 
 global : (c : In-Global)
     → EntriesLaid c.args.section.now
@@ -37,37 +37,34 @@ local c =
     c.in-Local.is c.requires.placed
 
 -- Its clips, as they are read.
-clips : (c : After-size8)
+clips : (c : After-from)
     →
     c.in-Local.placement.left + c.in-Local.placement.right
-    ≡ c.size8-left.result + c.size8.result
-clips c = omega (arith, c.size8-left.ensures.0, c.size8.ensures.0)
+    ≡ c.from-left.result + c.from.result
+clips c = omega (arith, c.from-left.ensures, c.from.ensures)
 
 pub aligned_differences-requires : goal.aligned_differences-requires
 aligned_differences-requires c =
     let a = c.args in (
       c.requires.lists,
-      subst
-          (λ (i : ℕ).
-          EntriesLaid a.section.now a.reference.now a.layout i a.size)
-          (sym c.size64-leftmost.ensures.0) (global (goal.at.aligned_differences-requires c).In-Global),
+      global (goal.at.aligned_differences-requires c).In-Global,
       omega arith,
     )
 
 pub overflow_sub-aligned : goal.overflow_sub-aligned
 overflow_sub-aligned c =
-    omega (arith, clips (goal.at.overflow_sub-aligned c).After-size8, (local (goal.at.overflow_sub-aligned c).In-Local).0)
+    omega (arith, clips (goal.at.overflow_sub-aligned c).After-from, (local (goal.at.overflow_sub-aligned c).In-Local).0)
 
 pub local_leftmost-leftmost-requires : goal.local_leftmost-leftmost-requires
 local_leftmost-leftmost-requires c =
     let a = c.args in
     let placement : Placement = c.in-Local.placement in
     record {
-      local_exact = subst (λ (n : ℕ). LocalExact placement (a.size - n)) (clips (goal.at.local_leftmost-leftmost-requires c).After-size8) (local (goal.at.local_leftmost-leftmost-requires c).In-Local).1;
+      local_exact = subst (λ (n : ℕ). LocalExact placement (a.size - n)) (clips (goal.at.local_leftmost-leftmost-requires c).After-from) (local (goal.at.local_leftmost-leftmost-requires c).In-Local).1;
       aligned_bound = subst
           (λ (n : ℕ).
           local_leftmost placement (a.size - n) + (a.size - n) ≤ max_reference_bases)
-          (clips (goal.at.local_leftmost-leftmost-requires c).After-size8) (local (goal.at.local_leftmost-leftmost-requires c).In-Local).2.stretch.small;
+          (clips (goal.at.local_leftmost-leftmost-requires c).After-from) (local (goal.at.local_leftmost-leftmost-requires c).In-Local).2.stretch.small;
     }
 
 pub aligned_differences-requires-in-Local : goal.aligned_differences-requires-in-Local
@@ -78,14 +75,14 @@ aligned_differences-requires-in-Local c =
       subst
           (λ (i : ℕ).
           EntriesLaid a.section.now a.reference.now a.layout i
-          (a.size - (c.size8-left.result + c.size8.result)))
+          (a.size - (c.from-left.result + c.from.result)))
           (sym c.local_leftmost-leftmost.ensures)
           (subst
           (λ (n : ℕ).
           EntriesLaid a.section.now a.reference.now a.layout
           (local_leftmost placement (a.size - n)) (a.size - n))
-          (clips (goal.at.aligned_differences-requires-in-Local c).After-size8) (local (goal.at.aligned_differences-requires-in-Local c).In-Local).2),
-      omega (arith, clips (goal.at.aligned_differences-requires-in-Local c).After-size8, (local (goal.at.aligned_differences-requires-in-Local c).In-Local).0),
+          (clips (goal.at.aligned_differences-requires-in-Local c).After-from) (local (goal.at.aligned_differences-requires-in-Local c).In-Local).2),
+      omega (arith, clips (goal.at.aligned_differences-requires-in-Local c).After-from, (local (goal.at.aligned_differences-requires-in-Local c).In-Local).0),
     )
 
 pub returns-in-Perfect : goal.returns-in-Perfect
@@ -101,8 +98,8 @@ returns-in-Global c =
     let a = c.args in
     c.aligned_differences.ensures
     ∙ of_global a.section.now a.reference.now a.size a.layout
-    c.in-Global.placement c.is_forward-forward.result c.size64-leftmost.result
-    c.is_forward-forward.ensures c.size64-leftmost.ensures.0
+    c.in-Global.placement c.is_forward-forward.result _
+    c.is_forward-forward.ensures refl
     ∙ ap (differences_of a.section.now a.reference.now a.size a.layout)
     (sym c.in-Global.is)
 
@@ -112,9 +109,9 @@ returns-in-Local c =
     c.aligned_differences-in-Local.ensures
     ∙ of_local a.section.now a.reference.now a.size a.layout
     c.in-Local.placement c.is_forward.result c.local_leftmost-leftmost.result
-    c.is_forward.ensures c.size8-left.result
-    (a.size - (c.size8-left.result + c.size8.result)) c.size8-left.ensures.0
-    (ap₂ (λ (m n : ℕ). a.size - (m + n)) c.size8-left.ensures.0 c.size8.ensures.0)
+    c.is_forward.ensures c.from-left.result
+    (a.size - (c.from-left.result + c.from.result)) c.from-left.ensures
+    (ap₂ (λ (m n : ℕ). a.size - (m + n)) c.from-left.ensures c.from.ensures)
     c.local_leftmost-leftmost.ensures
     ∙ ap (differences_of a.section.now a.reference.now a.size a.layout)
     (sym c.in-Local.is)

@@ -22,24 +22,22 @@ last c =
 pub returns-then-is_forward : goal.returns-then-is_forward
 returns-then-is_forward c =
     let a = c.args in
-    c.size64-position.ensures.0
-    ∙ sym
+    sym
     (leftmost-forward a.placement a.aligned
     (sym c.is_forward.ensures ∙ c.if-is_forward.true))
 
 pub overflow_add-result : goal.overflow_add-result
 overflow_add-result c =
-    record { fits = omega (arith, last (goal.at.overflow_add-result c).Else-is_forward, c.size64-position.ensures.0) }
+    record { fits = omega (arith, last (goal.at.overflow_add-result c).Else-is_forward) }
 
 pub overflow_sub-result : goal.overflow_sub-result
 overflow_sub-result c =
-    omega (arith, c.requires.local_exact (reverse (goal.at.overflow_sub-result c).Else-is_forward), c.size64-position.ensures.0)
+    omega (arith, c.requires.local_exact (reverse (goal.at.overflow_sub-result c).Else-is_forward))
 
 pub returns : goal.returns
 returns c =
     let a = c.args in
     omega (
       arith,
-      c.size64-position.ensures.0,
       leftmost_reverse a.placement a.aligned (reverse (goal.at.returns c).Else-is_forward),
     )

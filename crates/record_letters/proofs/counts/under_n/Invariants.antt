@@ -1,7 +1,7 @@
 -- `record_letters::counts::under_n` meets its contract. The loop's invariant: the places from k on
 -- can be read, and decide. Assumes nothing.
 use mathlib.Core.Path.{◌≡◌}
-use Prim.Native.Nat.{◌-◌, ◌≤◌}
+use Prim.Native.Nat.{◌≤◌}
 use mathlib.Core.Bool.{true}
 use lib.ListN.{length}
 use Rattle.base.specs.Lists.{member}
@@ -11,15 +11,10 @@ use Rattle.record_letters.specs.Laid.{is_found, offsets_of}
 use Rattle.record_letters.proofs.UnderNLaws.{offsets_left, named_left}
 use Rattle.record_letters.proofs.counts.under_n.Given as goal
 
-abbrev pub invariant-loop-k : goal.invariant-loop-k
-invariant-loop-k l =
-    (l.k ≤ l.count)
-    × (l.next ≤ length l.section)
+abbrev pub invariant-loop : goal.invariant-loop
+invariant-loop l =
+    (l.next ≤ length l.section)
     × (l.place ≤ l.size)
-    × (is_found (offsets_left l.section l.count l.size l.k l.place l.next) ≡ true)
+    × (is_found (offsets_left l.section l.count l.size l.counter l.place l.next) ≡ true)
     × (member l.letter (n_positions (offsets_of (offsets_at l.count l.size 0 0 l.section l.first)))
-    ≡ named_left l.letter l.place (offsets_left l.section l.count l.size l.k l.place l.next))
-
-abbrev pub decreases-loop-k : goal.decreases-loop-k
-decreases-loop-k l =
-    l.count - l.k
+    ≡ named_left l.letter l.place (offsets_left l.section l.count l.size l.counter l.place l.next))

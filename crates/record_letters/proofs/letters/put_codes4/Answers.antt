@@ -10,7 +10,7 @@ use Rattle.record_letters.proofs.letters.put_codes4.Goals as goal
 pub put_pairs-requires : goal.put_pairs-requires
 unfolding packed_length
 put_pairs-requires c =
-    (omega arith, omega arith, c.requires.4)
+    (omega arith, omega arith)
 
 pub bounds-section-packed : goal.bounds-section-packed
 unfolding packed_length

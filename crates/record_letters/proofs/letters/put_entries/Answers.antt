@@ -15,13 +15,13 @@ use Rattle.record_letters.proofs.TurnLaws.{length_entered, entries-first, overla
 use Rattle.record_letters.proofs.TurnLaws.{overlaid_turn, changes_none, changes_turn}
 use borrow.Author.Rules.{rules}
 use Rattle.record_letters.proofs.letters.put_entries.Goals as goal
-use Rattle.record_letters.proofs.letters.put_entries.Goals.{After-put_entry-changed, After-size8-place}
+use Rattle.record_letters.proofs.letters.put_entries.Goals.{After-put_entry-changed, After-from-place}
 
 -- The entry lands in the buffer, and so do those after it.
-inside : (c : After-size8-place)
-    → (c.loop-k.place + c.size8-place.result < length c.args.out.now)
+inside : (c : After-from-place)
+    → (c.loop-k.place + c.from-place.result < length c.args.out.now)
     × (any_outside (length c.args.out.now)
-    (places_from (c.loop-k.place + c.size8-place.result)
+    (places_from (c.loop-k.place + c.from-place.result)
     (offsets_from c.args.section.now
     (c.args.entries + (c.loop-k.k + 1))
     (c.args.count - (c.loop-k.k + 1))))
@@ -29,9 +29,9 @@ inside : (c : After-size8-place)
 inside c =
     let l = c.loop-k in
     let a = c.args in
-    places_turn a.section.now a.entries a.count l.k l.place c.size8-place.result
-    c.loop-k-test.true c.size8-place.ensures.0 (length a.out.now)
-    l.invariant.4
+    places_turn a.section.now a.entries a.count l.k l.place c.from-place.result
+    c.loop-k-test.true c.from-place.ensures (length a.out.now)
+    l.invariant.3
 
 -- An entry changes one letter at most.
 one : (c : After-put_entry-changed) → c.put_entry-changed.result ≤ 1
@@ -39,7 +39,7 @@ one c =
     let l = c.loop-k in
     let a = c.args in
     one-most
-    (changes_at l.out (l.place + c.size8-place.result)
+    (changes_at l.out (l.place + c.from-place.result)
     (get_or a.section.now (a.entries + l.k) 0 % 4))
     c.put_entry-changed.result c.put_entry-changed.ensures.1
 
@@ -49,7 +49,6 @@ loop-k-init c =
     let all : entries_at a.section.now a.entries a.count
     ≡ entries_at a.section.now (a.entries + 0) (a.count - 0) =
     entries-first a.section.now a.entries a.count in (
-      omega arith,
       omega arith,
       refl,
       c.requires.2,
@@ -65,14 +64,14 @@ loop-k-init c =
 
 pub overflow_add-place : goal.overflow_add-place
 overflow_add-place c =
-    let room : c.loop-k.place + c.size8-place.result < length c.args.out.now =
-    (inside (goal.at.overflow_add-place c).After-size8-place).0 in
+    let room : c.loop-k.place + c.from-place.result < length c.args.out.now =
+    (inside (goal.at.overflow_add-place c).After-from-place).0 in
     search rules
 
 pub put_entry-changed-requires : goal.put_entry-changed-requires
 put_entry-changed-requires c =
-    let room = (inside (goal.at.put_entry-changed-requires c).After-size8-place).0 in
-    (omega arith, omega (arith, room, c.loop-k.invariant.2))
+    let room = (inside (goal.at.put_entry-changed-requires c).After-from-place).0 in
+    (omega arith, omega (arith, room, c.loop-k.invariant.1))
 
 pub overflow_add-changed : goal.overflow_add-changed
 overflow_add-changed c =
@@ -85,32 +84,31 @@ loop-k-preserved c =
     let more = c.loop-k-test.true in
     let l = c.loop-k in
     let a = c.args in
-    let room : l.place + c.size8-place.result < length l.out =
-    omega (arith, (inside (goal.at.loop-k-preserved c).After-size8-place).0, l.invariant.2) in
+    let room : l.place + c.from-place.result < length l.out =
+    omega (arith, (inside (goal.at.loop-k-preserved c).After-from-place).0, l.invariant.1) in
     let most : put.result ≤ 1 = one (goal.at.loop-k-preserved c).After-put_entry-changed in (
       omega arith,
-      omega arith,
       ap length put.ensures.0
-          ∙ length_entered l.out (l.place + c.size8-place.result)
+          ∙ length_entered l.out (l.place + c.from-place.result)
           (get_or a.section.now (a.entries + l.k) 0 % 4) room
-          ∙ l.invariant.2,
-      omega (arith, (inside (goal.at.loop-k-preserved c).After-size8-place).0),
-      (inside (goal.at.loop-k-preserved c).After-size8-place).1,
-      l.invariant.5
+          ∙ l.invariant.1,
+      omega (arith, (inside (goal.at.loop-k-preserved c).After-from-place).0),
+      (inside (goal.at.loop-k-preserved c).After-from-place).1,
+      l.invariant.4
           ∙ overlaid_turn a.section.now a.entries a.count l.k l.place
-          c.size8-place.result more c.size8-place.ensures.0 l.out put.new.out
+          c.from-place.result more c.from-place.ensures l.out put.new.out
           put.ensures.0,
-      l.invariant.6
+      l.invariant.5
           ∙ ap (λ (n : ℕ). l.changed + n)
           (changes_turn a.section.now a.entries a.count l.k l.place
-          c.size8-place.result more c.size8-place.ensures.0 l.out put.new.out
+          c.from-place.result more c.from-place.ensures l.out put.new.out
           put.ensures.0 put.result put.ensures.1)
           ∙ omega arith,
     )
 
 pub shape_of-out : goal.shape_of-out
 shape_of-out c =
-    c.loop-k.invariant.2
+    c.loop-k.invariant.1
 
 pub returns : goal.returns
 returns c =
@@ -120,8 +118,8 @@ returns c =
     changes_none a.section.now a.entries a.count l.k l.place l.out
     c.loop-k-test.false in (
       sym
-          (l.invariant.5
+          (l.invariant.4
           ∙ overlaid_none a.section.now a.entries a.count l.k l.place l.out
           c.loop-k-test.false),
-      sym (l.invariant.6 ∙ ap (λ (n : ℕ). l.changed + n) none ∙ omega arith),
+      sym (l.invariant.5 ∙ ap (λ (n : ℕ). l.changed + n) none ∙ omega arith),
     )

@@ -13,8 +13,7 @@ use Rattle.record_letters.proofs.letters.put_entries.Given as goal
 
 abbrev pub invariant-loop-k : goal.invariant-loop-k
 invariant-loop-k l =
-    (l.k ≤ l.count)
-    × (l.changed ≤ l.k)
+    (l.changed ≤ l.k)
     × (length l.out ≡ length l.initial.out)
     × (l.place ≤ length l.initial.out)
     × (any_outside (length l.initial.out) (places_from l.place (offsets_from l.section (l.entries + l.k) (l.count - l.k)))
@@ -23,7 +22,3 @@ invariant-loop-k l =
     ≡ overlaid l.out l.place (entries_at l.section (l.entries + l.k) (l.count - l.k)))
     × (changes l.initial.out l.at (entries_at l.section l.entries l.count)
     ≡ l.changed + changes l.out l.place (entries_at l.section (l.entries + l.k) (l.count - l.k)))
-
-abbrev pub decreases-loop-k : goal.decreases-loop-k
-decreases-loop-k l =
-    l.count - l.k

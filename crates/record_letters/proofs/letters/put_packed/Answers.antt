@@ -11,7 +11,7 @@ put_stretch_forward-requires c =
     let a = c.args in (
       packed_fits a.section.now a.packed a.first a.count c.requires.0 c.requires.1,
       omega (arith, c.requires.2),
-      c.requires.3,
+      a.tables.forward_words,
     )
 
 pub returns : goal.returns

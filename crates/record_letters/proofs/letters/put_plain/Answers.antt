@@ -48,20 +48,14 @@ written c r letters same e =
     (same
     ∙ ap (plain_of a.section.now a.reference.now a.size a.layout) (sym e))
 
-pub put_placed-requires : goal.put_placed-requires
-put_placed-requires c = (
-  placed (goal.at.put_placed-requires c).Start _ c.in-Perfect.is,
-  omega (arith, c.requires.1),
-  c.requires.2,
-  c.requires.3,
-)
+pub put_aligned-requires : goal.put_aligned-requires
+put_aligned-requires c =
+    (placed (goal.at.put_aligned-requires c).Start _ c.in-Perfect.is, omega (arith, c.requires.1))
 
-pub put_placed-requires-in-Global : goal.put_placed-requires-in-Global
-put_placed-requires-in-Global c = (
-  (placed (goal.at.put_placed-requires-in-Global c).Start _ c.in-Global.is).stretch,
+pub put_aligned-requires-in-Global : goal.put_aligned-requires-in-Global
+put_aligned-requires-in-Global c = (
+  (placed (goal.at.put_aligned-requires-in-Global c).Start _ c.in-Global.is).stretch,
   omega (arith, c.requires.1),
-  c.requires.2,
-  c.requires.3,
 )
 
 pub put_local-requires : goal.put_local-requires
@@ -73,8 +67,6 @@ put_local-requires c =
       part.2.stretch,
       packed (goal.at.put_local-requires c).Start _ c.in-Local.is,
       omega (arith, c.requires.1),
-      c.requires.2,
-      c.requires.3,
     )
 
 pub put_packed-requires : goal.put_packed-requires
@@ -83,7 +75,6 @@ put_packed-requires c = (
   omega (arith, packed (goal.at.put_packed-requires c).Start _ c.in-Raw.is),
   omega (arith, c.requires.0.laid.lists.short),
   omega (arith, c.requires.1),
-  c.requires.2,
 )
 
 pub put_codes4-requires : goal.put_codes4-requires
@@ -96,13 +87,12 @@ put_codes4-requires c =
           (λ (k : Record). Below 5 (raw4_codes (fields_in a.section.now a.size k a.layout)))
           c.in-Raw4.is c.requires.0.codes,
       omega (arith, c.requires.1),
-      c.requires.4,
     )
 
 pub returns-in-Perfect : goal.returns-in-Perfect
 returns-in-Perfect c =
     let a = c.args in
-    c.put_placed.ensures
+    c.put_aligned.ensures
     ∙ written (goal.at.returns-in-Perfect c).Start _ _
     (plain_perfect a.section.now a.reference.now a.size a.layout
     c.in-Perfect.placement)
@@ -111,7 +101,7 @@ returns-in-Perfect c =
 pub returns-in-Global : goal.returns-in-Global
 returns-in-Global c =
     let a = c.args in
-    c.put_placed-in-Global.ensures
+    c.put_aligned-in-Global.ensures
     ∙ written (goal.at.returns-in-Global c).Start _ _
     (plain_global a.section.now a.reference.now a.size a.layout
     c.in-Global.placement)

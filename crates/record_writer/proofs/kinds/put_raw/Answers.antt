@@ -1,5 +1,4 @@
 -- `record_writer::kinds::put_raw` meets its contract. Assumes nothing.
-use mathlib.Core.Path.{◌∙◌}
 use native.Mathlib.Omega.{arith}
 use lib.ListN.{length-set}
 use Rattle.record_writer.proofs.PartLaws.{raw_room, raw_written}
@@ -10,27 +9,18 @@ bounds-out-at c =
     let a = c.args in
     omega (
       arith,
-      raw_room a.letters.now a.from a.to c.requires.read_lies a.out.now a.at
-          c.requires.to_in_bounds,
+      raw_room a.read.now a.out.now a.at
+          c.requires.read_in_bounds,
     )
 
-pub put_ends-requires : goal.put_ends-requires
-put_ends-requires c =
+pub put_ends-requires-clause-right_in_bounds : goal.put_ends-requires-clause-right_in_bounds
+put_ends-requires-clause-right_in_bounds c =
     let a = c.args in
-    let room = raw_room a.letters.now a.from a.to c.requires.read_lies a.out.now a.at
-    c.requires.to_in_bounds in
-    record {
-      read_lies = (c.requires.read_lies, omega arith);
-      right_in_bounds = simp length-set room;
-    }
-
-pub shape_of-out : goal.shape_of-out
-shape_of-out c =
-    c.out-1.given ∙ simp length-set
+    simp length-set (raw_room a.read.now a.out.now a.at c.requires.read_in_bounds)
 
 pub returns : goal.returns
 returns c =
     let a = c.args in
-    raw_written a.letters.now a.from a.to c.requires.read_lies a.out.now a.at _ _
-    c.requires.to_in_bounds
+    raw_written a.read.now a.out.now a.at _ _
+    c.requires.read_in_bounds
     c.put_ends.ensures.0 c.put_ends.ensures.1

@@ -8,11 +8,6 @@ use Rattle.records.proofs.fields.entries_fit.Given as goal
 
 abbrev pub invariant-loop-k : goal.invariant-loop-k
 invariant-loop-k l =
-    (l.k ≤ l.count)
-    × (l.place ≤ 63 * l.k)
+    (l.place ≤ 63 * l.k)
     × (entries_fit l.section l.at l.count l.aligned
     ≡ rest_fits l.k l.place l.aligned (offsets_from l.section (l.at + l.k) (l.count - l.k)))
-
-abbrev pub decreases-loop-k : goal.decreases-loop-k
-decreases-loop-k l =
-    l.count - l.k

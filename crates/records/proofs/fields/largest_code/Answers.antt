@@ -1,37 +1,23 @@
-use mathlib.Core.Path.{◌≡◌, refl, ap, ◌∙◌}
-use Prim.Native.Nat.{ℕ, ◌+◌, ◌*◌}
-use native.Mathlib.Omega.{arith}
+use mathlib.Core.Path.{ap, ◌∙◌}
+use Prim.Native.Nat.{ℕ}
 use lib.ListN.{get_or}
-use Rattle.base.specs.Packed.{symbols_at}
+use mathlib.Core.List.{[], ◌∷◌}
+use native.Mathlib.Omega.{arith}
 use Rattle.records.specs.Decoded.{codes_class}
-use Rattle.records.proofs.FieldLaws.{class-none, class-append, codes_byte}
+use Rattle.records.proofs.FieldLaws.{class-none, class-max, class-append, codes_byte}
 use Rattle.records.proofs.fields.largest_code.Goals as goal
 
-pub loop-k-init : goal.loop-k-init
-loop-k-init c =
-    let a = c.args in (
-      omega arith,
-      class-none a.section.now a.at,
-    )
+pub loop-byte-init : goal.loop-byte-init
+loop-byte-init c = class-none c.args.bytes.now 0
 
-pub loop-k-preserved : goal.loop-k-preserved
-loop-k-preserved c =
-    let l = c.loop-k in
+pub loop-byte-preserved : goal.loop-byte-preserved
+loop-byte-preserved c =
+    let l = c.loop-byte in
     let a = c.args in
-    let byte : ℕ = get_or a.section.now (a.at + l.k) 0 in (
-      omega arith,
-      c.larger-largest.ensures
-          ∙ class-append l.largest c.larger_code.result _ _ l.invariant.1
-          c.larger_code.ensures
-          ∙ ap codes_class
-          (codes_byte a.section.now a.at l.k byte refl
-          (omega (arith, c.type_inv.section (a.at + l.k)))),
-    )
-
-pub returns : goal.returns
-returns c =
-    let l = c.loop-k in
-    let a = c.args in
-    let all : l.k ≡ a.bytes = omega arith in
-    l.invariant.1
-    ∙ ap (λ (n : ℕ). codes_class (symbols_at 16 2 a.section.now a.at 0 (2 * n))) all
+    ap (λ n. codes_class (n ∷ [])) (c.max-largest.ensures)
+    ∙ class-append l.largest c.max.result _ _ l.invariant
+    (ap (λ n. codes_class (n ∷ [])) c.max.ensures ∙ class-max _ _)
+    ∙ ap codes_class
+    (codes_byte a.bytes.now 0 l.byte-index (get_or a.bytes.now l.byte-index 0)
+    (ap (λ (i : ℕ). get_or a.bytes.now i 0) (omega arith))
+    (omega (arith, c.type_inv.bytes l.byte-index)))

@@ -3,10 +3,12 @@
 use mathlib.Core.Path.{sym, ap, ◌∙◌}
 use native.Mathlib.Omega.{arith}
 use mathlib.Core.Bool.{Bool, cond}
+use Rattle.dna.specs.Refused.{numbered, refusal_number}
 use Rattle.records.proofs.FieldLaws.{position_cut, position_step, position_whole}
 use Rattle.records.proofs.fields.read_position.Goals as goal
 
 pub returns-then-section-at-lt2 : goal.returns-then-section-at-lt2
+unfolding numbered refusal_number
 returns-then-section-at-lt2 c =
     let a = c.args in
     sym
@@ -14,14 +16,16 @@ returns-then-section-at-lt2 c =
     (ap (λ (t : Bool). cond t 2 4) c.if-step.true) (omega arith))
 
 pub returns-then-step : goal.returns-then-step
+unfolding numbered refusal_number
 returns-then-step c =
     let a = c.args in
     sym
-    (position_step a.step a.previous a.section.now a.at c.wide64-field.result
+    (position_step a.step a.previous a.section.now a.at c.from.result
     c.if-step.true (omega arith)
-    (c.wide64-field.ensures.0 ∙ c.wide32.ensures.0 ∙ c.u16_at.ensures))
+    (c.from.ensures ∙ c.u16_at.ensures))
 
 pub returns-then-section-at-lt4 : goal.returns-then-section-at-lt4
+unfolding numbered refusal_number
 returns-then-section-at-lt4 c =
     let a = c.args in
     sym
@@ -29,8 +33,9 @@ returns-then-section-at-lt4 c =
     (ap (λ (t : Bool). cond t 2 4) c.if-step.false) (omega arith))
 
 pub returns : goal.returns
+unfolding numbered refusal_number
 returns c =
     let a = c.args in
     sym
-    (position_whole a.step a.previous a.section.now a.at c.wide64.result
-    c.if-step.false (omega arith) (c.wide64.ensures.0 ∙ c.u32_at.ensures))
+    (position_whole a.step a.previous a.section.now a.at c.from-2.result
+    c.if-step.false (omega arith) (c.from-2.ensures ∙ c.u32_at.ensures))

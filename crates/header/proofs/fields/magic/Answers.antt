@@ -1,8 +1,0 @@
--- `header::fields::magic` meets its contract: the field at its offset. Assumes nothing.
-use Rattle.format.specs.Header.{header_of}
-use Rattle.header.proofs.fields.magic.Goals as goal
-
-pub returns : goal.returns
-unfolding header_of
-returns c =
-    c.u16_at.ensures
