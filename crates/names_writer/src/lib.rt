@@ -43,7 +43,7 @@ pub fn names_refused(names: &[u8], ends: &[u32], reads: usize) -> bool
     if byte_invalid(names) {
         return true;
     }
-    let mut marks = [0u32; MAX_NAME];
+    let mut marks = [0u8; MAX_NAME];
     counts_differ(names, ends, &mut marks)
 }
 
@@ -63,7 +63,7 @@ pub fn measure(names: &[u8], ends: &[u32], kinds: &mut [u8], sizes: &mut [usize]
     if ends.len() == 0 {
         return 0;
     }
-    let mut marks = [0u32; MAX_NAME];
+    let mut marks = [0u8; MAX_NAME];
     let count = token_count(names, ends, &mut marks);
     let mut room = [EMPTY; MAX_NAME];
     let columns = &mut room[0..count];
@@ -93,7 +93,7 @@ pub fn put_section(
     if ends.len() == 0 {
         return;
     }
-    let mut marks = [0u32; MAX_NAME];
+    let mut marks = [0u8; MAX_NAME];
     let count = token_count(names, ends, &mut marks);
     put_table(kinds, sizes, count, out, at);
     let mut room = [START; MAX_NAME];

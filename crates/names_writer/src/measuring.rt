@@ -14,7 +14,7 @@ use crate::tokeniser::split_name;
 
 // Measures the columns of all names, which come as they are of no name. `marks` is room for the ends
 // of a name's tokens.
-pub fn measure_rows(names: &[u8], ends: &[u32], marks: &mut [u32], columns: &mut [Column])
+pub fn measure_rows(names: &[u8], ends: &[u32], marks: &mut [u8], columns: &mut [Column])
     requires names_fit { NamesFit names.now ends.now }
     requires marks_room { 255 ≤ length marks.old }
     requires none_yet { Measured (names_lent names.now ends.now) 0 columns.old }

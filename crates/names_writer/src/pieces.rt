@@ -8,7 +8,7 @@ ghost use Rattle.names_writer.specs.Rows.{Marked};
 ghost use Rattle.names_writer.specs.Pieces.{number_piece, piece_of, place_of, row_piece, written};
 ghost use Rattle.names_writer.specs.Pieces.{PiecesFit, RowMoved};
 
-use crate::parts::part_at;
+use crate::parts::token_at;
 use crate::steps::{Kind, number_of};
 use integers::{put_u16, put_u32, put_u64};
 
@@ -27,7 +27,7 @@ pub const START: Cursor = Cursor {
 };
 
 // Writes one row, each token where its column has arrived, and moves the cursors on.
-pub fn put_row(name: &[u8], marks: &[u32], kinds: &[u8], cursors: &mut [Cursor], out: &mut [u8])
+pub fn put_row(name: &[u8], marks: &[u8], kinds: &[u8], cursors: &mut [Cursor], out: &mut [u8])
     requires marked { Marked name.now marks.now (length cursors.old) }
     requires kinds_room { length cursors.old ≤ length kinds.now }
     requires pieces_fit { PiecesFit out.old (place_of cursors.old)
@@ -37,7 +37,7 @@ pub fn put_row(name: &[u8], marks: &[u32], kinds: &[u8], cursors: &mut [Cursor],
         (row_piece name.now kinds.now cursors.old) (length cursors.old) }
 {
     for (k, cursor) in cursors.iter_mut().enumerate() {
-        let token = part_at(name, marks, k);
+        let token = token_at(name, marks, k);
         let number = number_of(token);
         let place = put_piece(
             Kind::from(kinds[k]),

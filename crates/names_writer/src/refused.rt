@@ -43,7 +43,7 @@ pub fn byte_invalid(names: &[u8]) -> bool
 }
 
 // Whether two names have token counts that differ. `marks` is room for the ends of tokens.
-pub fn counts_differ(names: &[u8], ends: &[u32], marks: &mut [u32]) -> bool
+pub fn counts_differ(names: &[u8], ends: &[u32], marks: &mut [u8]) -> bool
     requires { NamesLie names.now ends.now marks.old }
     ensures { result ≡ token_counts_differ (names_lent names.now ends.now) }
 {
@@ -58,7 +58,7 @@ pub fn counts_differ(names: &[u8], ends: &[u32], marks: &mut [u32]) -> bool
 }
 
 // How many tokens the first name has; 0 where there is none.
-pub fn token_count(names: &[u8], ends: &[u32], marks: &mut [u32]) -> usize
+pub fn token_count(names: &[u8], ends: &[u32], marks: &mut [u8]) -> usize
     requires { NamesLie names.now ends.now marks.old }
     ensures { result ≡ token_count (names_lent names.now ends.now) }
 {

@@ -17,6 +17,9 @@ pub enum Kind {
     Steps32 = 5,
 }
 
+// The largest number, of 18 digits.
+const MAX_NUMBER: u64 = 999_999_999_999_999_999;
+
 const MAX_DIGITS: usize = 18;
 
 const MAX_STEP: u64 = 4_294_967_295;
@@ -76,10 +79,12 @@ impl Kind {
     // The type with one more number, `previous` being the one before.
     #[tactic(auto, unfolding(crate::specs::Steps::kind_after))]
     pub fn after(self, previous: u64, number: u64) -> Kind
-        requires { number ≤ max_number }
         ensures { kind_byte result ≡ kind_after (kind_byte self) previous number }
     {
         if self == Kind::Strings {
+            return Kind::Strings;
+        }
+        if MAX_NUMBER < number {
             return Kind::Strings;
         }
         if number < previous {

@@ -8,7 +8,7 @@ ghost use Rattle.names_writer.specs.Runs.{run_length, token_ends, NameLent, RunL
 
 // Writes the ends of the tokens of a name to the start of `marks`; the answer is how many there
 // are.
-pub fn split_name(name: &[u8], marks: &mut [u32]) -> usize
+pub fn split_name(name: &[u8], marks: &mut [u8]) -> usize
     requires { NameLent name.now marks.old }
     ensures { (marks.new
         ≡ pasted marks.old 0 (token_ends name.now 0))
@@ -23,14 +23,14 @@ pub fn split_name(name: &[u8], marks: &mut [u32]) -> usize
 // The tokens from `from` on, where a run of digits starts; `count` tokens stand before them. It and
 // `other_run` stay two functions that call each other: docs/DECISIONS.md names this form in "Forms".
 #[cycle(digit_run_other_run)]
-fn digit_run(name: &[u8], from: usize, marks: &mut [u32], count: usize) -> usize
+fn digit_run(name: &[u8], from: usize, marks: &mut [u8], count: usize) -> usize
     requires { RunLent true name.now from marks.old count }
     ensures { (marks.new
         ≡ pasted marks.old count (token_ends name.now from))
         × (result ≡ count + length (split_of (drop from name.now))) }
 {
     let end = run_end(name, from, true);
-    marks[count] = end as u32;
+    marks[count] = end as u8;
     if end == name.len() {
         return count + 1;
     }
@@ -39,14 +39,14 @@ fn digit_run(name: &[u8], from: usize, marks: &mut [u32], count: usize) -> usize
 
 // The tokens from `from` on, where a run of others starts.
 #[cycle(digit_run_other_run)]
-fn other_run(name: &[u8], from: usize, marks: &mut [u32], count: usize) -> usize
+fn other_run(name: &[u8], from: usize, marks: &mut [u8], count: usize) -> usize
     requires { RunLent false name.now from marks.old count }
     ensures { (marks.new
         ≡ pasted marks.old count (token_ends name.now from))
         × (result ≡ count + length (split_of (drop from name.now))) }
 {
     let end = run_end(name, from, false);
-    marks[count] = end as u32;
+    marks[count] = end as u8;
     if end == name.len() {
         return count + 1;
     }

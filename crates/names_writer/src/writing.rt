@@ -21,7 +21,7 @@ pub fn put_columns(
     ends: &[u32],
     kinds: &[u8],
     sizes: &[usize],
-    marks: &mut [u32],
+    marks: &mut [u8],
     cursors: &mut [Cursor],
     out: &mut [u8],
     start: usize,

@@ -7,7 +7,7 @@ use Rattle.names_writer.specs.Pieces.{cursor_at, place_of, piece_of, row_piece, 
 use Rattle.names_writer.proofs.TokenPartLaws.{token_lies, token_is}
 use Rattle.names_writer.proofs.PieceLaws.{piece_kind, written_start, written-turn}
 use Rattle.names_writer.proofs.pieces.put_row.Goals as goal
-use Rattle.names_writer.proofs.pieces.put_row.Goals.{In-loop-k, After-part_at-token, After-from}
+use Rattle.names_writer.proofs.pieces.put_row.Goals.{In-loop-k, After-token_at-token, After-from}
 
 pub loop-k-init : goal.loop-k-init
 loop-k-init c =
@@ -24,11 +24,11 @@ inside : (c : In-loop-k) → c.loop-k.k < length (split_of c.args.name.now)
 inside c = omega (arith, c.requires.marked.counted)
 
 -- Token k of the name.
-token : (c : After-part_at-token) → c.part_at-token.result.now ≡ token_of c.args.name.now c.loop-k.k
+token : (c : After-token_at-token) → c.token_at-token.result.now ≡ token_of c.args.name.now c.loop-k.k
 token c =
-    c.part_at-token.ensures
+    c.token_at-token.ensures
     ∙ token_is c.args.name.now c.args.marks.now c.requires.marked.ends c.loop-k.k
-    (inside (goal.at.After-part_at-token c).In-loop-k)
+    (inside (goal.at.After-token_at-token c).In-loop-k)
 
 -- The cursor is still where it was.
 old : (c : In-loop-k) → cursor_at c.loop-k.cursors c.loop-k.k ≡ cursor_at c.args.cursors.now c.loop-k.k
@@ -37,19 +37,19 @@ old c = c.loop-k.invariant.same c.loop-k.k (omega arith)
 -- What the token adds to its column.
 piece : (c : After-from)
     → piece_of (cursor_at c.loop-k.cursors c.loop-k.k).last (kind_byte c.from.result)
-    c.part_at-token.result.now
+    c.token_at-token.result.now
     ≡ row_piece c.args.name.now c.args.kinds.now c.args.cursors.now c.loop-k.k
 piece c =
     let byte = get_or c.args.kinds.now c.loop-k.k 0 in
-    piece_kind _ (kind_byte c.from.result) byte c.part_at-token.result.now c.from.ensures.string
+    piece_kind _ (kind_byte c.from.result) byte c.token_at-token.result.now c.from.ensures.string
     c.from.ensures.width
     ∙ ap₂ (λ (cursor : Cursor) (t : List ℕ). piece_of cursor.last byte t)
-    (old (goal.at.After-from c).In-loop-k) (token (goal.at.After-from c).After-part_at-token)
+    (old (goal.at.After-from c).In-loop-k) (token (goal.at.After-from c).After-token_at-token)
 
-pub part_at-token-requires : goal.part_at-token-requires
-part_at-token-requires c =
+pub token_at-token-requires : goal.token_at-token-requires
+token_at-token-requires c =
     token_lies c.args.name.now c.args.marks.now c.requires.marked.ends c.loop-k.k
-    (inside (goal.at.part_at-token-requires c).In-loop-k)
+    (inside (goal.at.token_at-token-requires c).In-loop-k)
 
 pub put_piece-place-requires : goal.put_piece-place-requires
 put_piece-place-requires c =
@@ -79,7 +79,7 @@ loop-k-preserved c =
     record {
       last =
           c.number_of-number.ensures
-          ∙ ap token_number (token (goal.at.loop-k-preserved c).After-part_at-token);
+          ∙ ap token_number (token (goal.at.loop-k-preserved c).After-token_at-token);
       place =
           c.put_piece-place.ensures.1 ∙ ap₂ (λ (at : ℕ) (bytes : List ℕ). at + length bytes) place is;
     } in

@@ -6,7 +6,7 @@ use Rattle.names_writer.specs.Columns.{column_at, Grown}
 use Rattle.names_writer.proofs.TokenPartLaws.{token_lies, token_is}
 use Rattle.names_writer.proofs.MeasuredLaws.{token-short}
 use Rattle.names_writer.proofs.rows.add_row.Goals as goal
-use Rattle.names_writer.proofs.rows.add_row.Goals.{In-loop-k, After-part_at}
+use Rattle.names_writer.proofs.rows.add_row.Goals.{In-loop-k, After-token_at}
 
 pub loop-k-init : goal.loop-k-init
 loop-k-init c = record { grown = λ j h. absurd (omega arith); same = λ j h. refl }
@@ -15,16 +15,16 @@ inside : (c : In-loop-k) → c.loop-k.k < length (split_of c.args.name.now)
 inside c = omega (arith, c.requires.marked.counted)
 
 -- Token k of the name.
-token : (c : After-part_at) → c.part_at.result.now ≡ token_of c.args.name.now c.loop-k.k
+token : (c : After-token_at) → c.token_at.result.now ≡ token_of c.args.name.now c.loop-k.k
 token c =
-    c.part_at.ensures
+    c.token_at.ensures
     ∙ token_is c.args.name.now c.args.marks.now c.requires.marked.ends c.loop-k.k
-    (inside (goal.at.After-part_at c).In-loop-k)
+    (inside (goal.at.After-token_at c).In-loop-k)
 
-pub part_at-requires : goal.part_at-requires
-part_at-requires c =
+pub token_at-requires : goal.token_at-requires
+token_at-requires c =
     token_lies c.args.name.now c.args.marks.now c.requires.marked.ends c.loop-k.k
-    (inside (goal.at.part_at-requires c).In-loop-k)
+    (inside (goal.at.token_at-requires c).In-loop-k)
 
 pub with-requires : goal.with-requires
 with-requires c =
@@ -36,7 +36,7 @@ with-requires c =
       ),
       omega (
         arith,
-        ap length (token (goal.at.with-requires c).After-part_at),
+        ap length (token (goal.at.with-requires c).After-token_at),
         token-short c.args.name.now l.k,
         c.requires.marked.short,
       ),
@@ -50,7 +50,7 @@ loop-k-preserved c =
     subst (λ (column : Column). Grown column (token_of c.args.name.now l.k) c.with.result)
     (l.invariant.same l.k (omega arith))
     (subst (λ (t : List ℕ). Grown (column_at l.columns l.k) t c.with.result)
-    (token (goal.at.loop-k-preserved c).After-part_at) c.with.ensures) in
+    (token (goal.at.loop-k-preserved c).After-token_at) c.with.ensures) in
     record {
       grown =
           below_more _ _

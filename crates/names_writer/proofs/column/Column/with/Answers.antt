@@ -1,7 +1,7 @@
 -- `names_writer::column::Column::with` meets its contract. Assumes nothing.
 use mathlib.Core.Path.{sym, refl, ap, ◌∙◌}
 use Rattle.names_writer.specs.Steps.{kind_byte, kind_with}
-use Rattle.names_writer.proofs.ValueLaws.{number_some, with-none, with-first, with-more}
+use Rattle.names_writer.proofs.ValueLaws.{with-none, with-first, with-more}
 use Rattle.names_writer.proofs.column.Column.with.Goals as goal
 
 pub returns-in_default : goal.returns-in_default
@@ -9,10 +9,6 @@ returns-in_default c =
     let a = c.args in
     let none = sym c.in_default.is ∙ c.number_of.ensures in
     record { kind = with-none (kind_byte a.self.kind) a.self.last a.token.now none; last = none; size = refl }
-
-pub after-kind-requires : goal.after-kind-requires
-after-kind-requires c =
-    (number_some c.args.token.now c.in-Some.number (sym c.in-Some.is ∙ c.number_of.ensures)).most
 
 pub returns-in-None : goal.returns-in-None
 returns-in-None c =
