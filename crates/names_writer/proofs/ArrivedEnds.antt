@@ -17,10 +17,9 @@ use Rattle.tokens.specs.Columns.{Column, column_bytes}
 use Rattle.tokens.specs.WrittenNames.{column_for, columns_for, token_count, tokens_at}
 use Rattle.std.proofs.Common.{None}
 use Rattle.names_writer.specs.declared.pieces.Cursor.{Cursor}
-use Rattle.names_writer.specs.Measured.{last_number}
 use Rattle.names_writer.specs.Pieces.{cursor_at, place_of, Started}
 use Rattle.names_writer.specs.Arrived.{pieces_of, part_bytes, column_part, column_lengths}
-use Rattle.names_writer.specs.Arrived.{column_start, columns_end, Arrived}
+use Rattle.names_writer.specs.Arrived.{column_start, columns_end, last_written, Arrived}
 use Rattle.names_writer.proofs.MeasuredLaws.{length_column}
 use Rattle.names_writer.proofs.TableLaws.{columns_map, count_columns, length-columns}
 use Rattle.names_writer.proofs.ColumnPieceLaws.{pieces-joined, part_none, count_pieces}
@@ -113,7 +112,7 @@ module _ (names : List (List ℕ)) (start : ℕ) (out : List ℕ)
       → ((k : ℕ) → k < token_count names → (cursor_at cursors k).last ≡ None)
       → ((k : ℕ) → k < token_count names → place_of cursors k ≡ column_start start names k)
       → Arrived names (take start out) (drop (columns_end start names) out) 0 cursors out
-  unfolding column_part columns_end last_number
+  unfolding column_part columns_end last_written
   arrived_start cursors counted first there =
       let low = front_length in
       let none : (k : ℕ) → length (column_part names k 0) ≡ 0 =

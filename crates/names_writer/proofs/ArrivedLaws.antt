@@ -6,19 +6,19 @@ use native.Mathlib.Omega.{arith}
 use mathlib.Core.List.{List, [], ◌++◌, map}
 use lib.ListN.{length, get_or, length-append}
 use native.Mathlib.Numerals.{add-one}
+use Rattle.std.proofs.Common.{Some}
 use Rattle.base.specs.Lists.{build}
 use Rattle.base.specs.Place.{At}
 use Rattle.base.proofs.ListLaws.{length-build, get_or-build}
 use Rattle.tokens.specs.Columns.{column_type}
 use Rattle.tokens.specs.WrittenNames.{column_for, columns_for, token_count, tokens_at}
 use Rattle.names_writer.specs.declared.pieces.Cursor.{Cursor}
-use Rattle.names_writer.specs.Steps.{token_number}
+use Rattle.names_writer.specs.Steps.{number_of}
 use Rattle.names_writer.specs.Rows.{token_of}
-use Rattle.names_writer.specs.Measured.{last_number}
 use Rattle.names_writer.specs.Pieces.{cursor_at, place_of, piece_of, row_piece, written}
 use Rattle.names_writer.specs.Pieces.{PiecesFit, RowMoved}
 use Rattle.names_writer.specs.Arrived.{pieces_of, column_part, column_lengths, column_start}
-use Rattle.names_writer.specs.Arrived.{columns_end, Arrived}
+use Rattle.names_writer.specs.Arrived.{columns_end, last_written, Arrived}
 use Rattle.names_writer.proofs.MeasuredLaws.{length_column, column_token}
 use Rattle.names_writer.proofs.TableLaws.{columns_map}
 use Rattle.names_writer.proofs.ColumnPieceLaws.{piece_at, count_pieces, part_length, part_more}
@@ -111,7 +111,7 @@ module _ (names : List (List ℕ)) (front back : List ℕ) (i : ℕ) (cursors : 
       → RowMoved name kinds cursors cursors'
       → out' ≡ written out (place_of cursors) (row_piece name kinds cursors) (length cursors)
       → Arrived names front back (i + 1) cursors' out'
-  unfolding last_number
+  unfolding last_written
   arrived_next cursors' out' same moved done =
       let s : ℕ → ℕ = column_start base names in
       let z : ℕ → ℕ = λ k. get_or (column_lengths names) k 0 in
@@ -123,8 +123,9 @@ module _ (names : List (List ℕ)) (front back : List ℕ) (i : ℕ) (cursors : 
         counted = same ∙ so.counted;
         last = λ k h.
             (moved.each k (omega (arith, so.counted))).last
-            ∙ ap token_number (ap (λ (n : List ℕ). token_of n k) is ∙ sym (column_token names i k))
-            ∙ ap (last_number (tokens_at names k)) (sym (add-one i));
+            ∙ ap (λ (t : List ℕ). Some (number_of t))
+            (ap (λ (n : List ℕ). token_of n k) is ∙ sym (column_token names i k))
+            ∙ ap (last_written (tokens_at names k)) (sym (add-one i));
         place = λ k h.
             (moved.each k (omega (arith, so.counted))).place
             ∙ omega (

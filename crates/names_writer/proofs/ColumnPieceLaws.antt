@@ -4,8 +4,8 @@ use Prim.Native.Nat.{ℕ, zero, suc, ◌+◌, ◌-◌, ◌≤◌, ◌<◌}
 use native.Mathlib.Nat.{not-suc-le-zero, le_of_suc-le-suc}
 use native.Mathlib.Numerals.{add-one}
 use native.Mathlib.Omega.{arith}
-use mathlib.Core.Bool.{Bool, true, false, cond, ◌||◌}
-use Rattle.std.proofs.Common.{Option, None, Some}
+use mathlib.Core.Bool.{Bool, true, false, cond}
+use Rattle.std.proofs.Common.{Option}
 use mathlib.Core.List.{List, [], ◌∷◌, ◌++◌, map, flat_map, flatten, append_assoc, append-nil}
 use lib.ListN.{length, get_or, take, drop, length-append, length-map, take-append-drop}
 use lib.ListN.{get_or-map}
@@ -13,14 +13,14 @@ use lib.Seq.{take-suc}
 use Rattle.base.specs.Lists.{any, steps_from}
 use Rattle.base.specs.Numbers.{le_bytes}
 use Rattle.base.proofs.ListLaws.{get_or-inside}
-use Rattle.base.proofs.Tests.{or-neither, any_none}
+use Rattle.base.proofs.Tests.{or-neither}
 use Rattle.tokens.specs.Columns.{Column, strings, rising, column_type, column_bytes}
-use Rattle.tokens.specs.WrittenNames.{not_number, value_of, value_from, steps_invalid, steps_of, width_for}
+use Rattle.tokens.specs.WrittenNames.{not_number, value_of, steps_invalid, steps_of, width_for}
 use Rattle.tokens.specs.WrittenNames.{not_rising, column_for}
-use Rattle.names_writer.specs.Steps.{token_number}
-use Rattle.names_writer.specs.Measured.{last_number}
+use Rattle.names_writer.specs.Steps.{number_of}
 use Rattle.names_writer.specs.Pieces.{number_piece, piece_of}
-use Rattle.names_writer.specs.Arrived.{pieces_of, part_bytes}
+use Rattle.names_writer.specs.Arrived.{pieces_of, part_bytes, last_written}
+use Rattle.names_writer.proofs.KindLaws.{last-number}
 use Rattle.names_writer.proofs.SectionLaws.{width_is, count-steps}
 
 -- ---- Parts of a column
@@ -104,27 +104,21 @@ module _ (tokens : List (List ℕ)) where
   abbrev column_by : (test : Bool) → Column
   column_by test = cond test (strings tokens) (rising width (get_or numbers 0 0) (steps_of numbers))
 
-  value-at : (k : ℕ) → value_of (get_or tokens k []) ≡ get_or numbers k 0
-  unfolding value_of value_from
-  value-at k = sym (get_or-map value_of tokens k [])
-
   -- Of a rising column.
   rising-at : any not_number tokens ≡ false → (i : ℕ) → i < length tokens
-      → number_piece (last_number tokens i) width (value_of (get_or tokens i []))
+      → number_piece (last_written tokens i) width (number_of (get_or tokens i []))
       ≡ get_or (le_bytes 8 (get_or numbers 0 0) ∷ map (le_bytes width) (steps_of numbers)) i []
-  unfolding number_piece last_number token_number
-  rising-at none zero inside = ap (le_bytes 8) (value-at 0)
+  unfolding number_piece last_written
+  rising-at none zero inside = ap (le_bytes 8) (last-number tokens 0 inside none)
   rising-at none (suc j) inside =
       let size : length numbers ≡ length tokens = length-map tokens value_of in
-      let before : List ℕ = get_or tokens j [] in
-      ap (λ (t : Bool). number_piece (cond t None (Some (value_of before))) width
-      (value_of (get_or tokens (suc j) []))) (any_none not_number tokens none j [] (omega arith))
-      ∙ ap₂ (λ (a b : ℕ). le_bytes width (a - b)) (value-at (suc j)) (value-at j)
+      ap₂ (λ (a b : ℕ). le_bytes width (a - b)) (last-number tokens (suc j) inside none)
+      (last-number tokens j (omega arith) none)
       ∙ ap (le_bytes width) (step-at numbers j (omega arith))
       ∙ mapped_at (le_bytes width) (steps_of numbers) j 0 (omega (arith, count-steps tokens))
 
   piece_by : (test : Bool) → not_rising tokens ≡ test → (i : ℕ) → i < length tokens
-      → piece_of (last_number tokens i) (column_type (column_by test)) (get_or tokens i [])
+      → piece_of (last_written tokens i) (column_type (column_by test)) (get_or tokens i [])
       ≡ get_or (pieces_of (column_by test)) i []
   unfolding piece_of column_type pieces_of not_rising
   piece_by true is i inside = mapped_at (λ token. token ++ (0 ∷ [])) tokens i [] inside
@@ -132,15 +126,12 @@ module _ (tokens : List (List ℕ)) where
       let w = width_is (steps_of numbers) in
       let none = (or-neither (any not_number tokens) (steps_invalid (get_or numbers 0 0) numbers) is).0 in
       let token : List ℕ = get_or tokens i [] in
-      ap₂ (λ (t : Bool) (n : ℕ). cond (t || not_number token) (token ++ (0 ∷ []))
-      (number_piece (last_number tokens i) n (value_of token))) w.steps w.wide
-      ∙ ap (λ (t : Bool). cond t (token ++ (0 ∷ []))
-      (number_piece (last_number tokens i) width (value_of token)))
-      (any_none not_number tokens none i [] inside)
+      ap₂ (λ (t : Bool) (n : ℕ). cond t (token ++ (0 ∷ []))
+      (number_piece (last_written tokens i) n (number_of token))) w.steps w.wide
       ∙ rising-at none i inside
 
   pub piece_at : (i kind : ℕ) (last : Option ℕ) → i < length tokens
-      → kind ≡ column_type (column_for tokens) → last ≡ last_number tokens i
+      → kind ≡ column_type (column_for tokens) → last ≡ last_written tokens i
       → piece_of last kind (get_or tokens i []) ≡ get_or (pieces_of (column_for tokens)) i []
   unfolding column_for
   piece_at i kind last inside is before =

@@ -11,6 +11,7 @@ use lib.Seq.{drop-cons}
 use lib.Dec.{ltb, leb, eqb}
 use borrow.Author.Tests.{leb-true, ltb-false}
 use Rattle.std.proofs.Common.{Option, None, Some}
+use Rattle.std.specs.Option.{unwrap_or}
 use Rattle.base.specs.Lists.{any}
 use Rattle.base.proofs.ListLaws.{by_test}
 use Rattle.base.proofs.Tests.{or-neither, and_both, not-false, any_none}
@@ -109,6 +110,11 @@ number_is token e = rw e
 pub number_none : (token : List ℕ) → not_number token ≡ true → number_of token ≡ no_number
 unfolding number_of
 number_none token e = rw e
+
+-- The same by the number, if it is one.
+pub number_or : (token : List ℕ) → unwrap_or (token_number token) no_number ≡ number_of token
+unfolding token_number number_of
+number_or token = by_test (not_number token) (λ none. rw none) (λ some. rw some)
 
 -- A number that a token is.
 pub record NumberIs (token : List ℕ) (number : ℕ) : Type 0 where

@@ -1,5 +1,5 @@
 -- A section that is written row by row: what stands in the buffer after so many rows.
-use Rattle.std.specs.Prelude.{ℕ, ◌+◌, ◌<◌, ◌≡◌, length, take}
+use Rattle.std.specs.Prelude.{ℕ, zero, suc, ◌+◌, ◌<◌, ◌≡◌, Option, None, Some, length, get_or, take}
 use mathlib.Core.List.{List, [], ◌∷◌, ◌++◌, map, flatten}
 use Rattle.base.specs.Lists.{total}
 use Rattle.base.specs.Numbers.{le_bytes}
@@ -7,7 +7,7 @@ use Rattle.base.specs.Place.{At}
 use Rattle.tokens.specs.Columns.{Column, strings, rising, column_bytes}
 use Rattle.tokens.specs.WrittenNames.{column_for, columns_for, token_count, tokens_at}
 use Rattle.names_writer.specs.declared.pieces.Cursor.{Cursor}
-use Rattle.names_writer.specs.Measured.{last_number}
+use Rattle.names_writer.specs.Steps.{number_of}
 use Rattle.names_writer.specs.Pieces.{cursor_at, place_of}
 
 -- The bytes of a column, token by token.
@@ -33,12 +33,17 @@ column_start base names k = base + total (take k (column_lengths names))
 unfoldable pub columns_end : (base : ℕ) (names : List (List ℕ)) → ℕ
 columns_end base names = base + total (column_lengths names)
 
+-- The number of the token before token i, if there is a token; `no_number` where it is none.
+unfoldable pub last_written : (tokens : List (List ℕ)) (i : ℕ) → Option ℕ
+last_written tokens zero = None
+last_written tokens (suc i) = Some (number_of (get_or tokens i []))
+
 -- The buffer has `front`, the columns of the first i names, each from its start on, and `back`.
 pub record Arrived (names : List (List ℕ)) (front back : List ℕ) (i : ℕ)
     (cursors : List Cursor) (out : List ℕ) : Type 0 where
   pub counted : length cursors ≡ token_count names
   pub last : (k : ℕ) → k < token_count names
-      → (cursor_at cursors k).last ≡ last_number (tokens_at names k) i
+      → (cursor_at cursors k).last ≡ last_written (tokens_at names k) i
   pub place : (k : ℕ) → k < token_count names
       → place_of cursors k ≡ column_start (length front) names k + length (column_part names k i)
   pub before : At out 0 front

@@ -1,13 +1,12 @@
 -- The bytes that a token adds to its column, as code writes them row by row.
-use Rattle.std.specs.Prelude.{ℕ, zero, suc, ◌+◌, ◌-◌, ◌≤◌, ◌<◌, ◌≡◌, cond, ◌||◌, Option, None, Some, length, get_or, take, eqb}
+use Rattle.std.specs.Prelude.{ℕ, zero, suc, ◌+◌, ◌-◌, ◌≤◌, ◌<◌, ◌≡◌, cond, Option, None, Some, length, get_or, take, eqb}
 use mathlib.Core.List.{List, [], ◌∷◌, ◌++◌, flat_map}
 use Rattle.base.specs.Lists.{total}
 use Rattle.base.specs.Numbers.{le_bytes}
 use Rattle.base.specs.Paste.{pasted}
 use Rattle.tokens.specs.Columns.{string_type}
-use Rattle.tokens.specs.WrittenNames.{not_number, value_of}
 use Rattle.names_writer.specs.declared.pieces.Cursor.{Cursor}
-use Rattle.names_writer.specs.Steps.{token_number, kind_width}
+use Rattle.names_writer.specs.Steps.{number_of, kind_width}
 use Rattle.names_writer.specs.Rows.{token_of}
 
 -- The start of a column; or the step from the number before, of so many bytes.
@@ -15,11 +14,11 @@ unfoldable pub number_piece : (last : Option ℕ) (width number : ℕ) → List 
 number_piece None width number = le_bytes 8 number
 number_piece (Some previous) width number = le_bytes width (number - previous)
 
--- A string and its zero byte, or a number.
+-- A string and its zero byte, or a number, `no_number` for a token that is none.
 unfoldable pub piece_of : (last : Option ℕ) (kind : ℕ) (token : List ℕ) → List ℕ
 piece_of last kind token =
-    cond (eqb kind string_type || not_number token) (token ++ (0 ∷ []))
-    (number_piece last (kind_width kind) (value_of token))
+    cond (eqb kind string_type) (token ++ (0 ∷ []))
+    (number_piece last (kind_width kind) (number_of token))
 
 -- Cursor k, and its place.
 abbrev pub cursor_at : (cursors : List Cursor) (k : ℕ) → Cursor
@@ -47,7 +46,7 @@ pub record PiecesFit (buffer : List ℕ) (place : ℕ → ℕ) (piece : ℕ → 
 
 -- A cursor is moved on by a piece.
 pub record Moved (token piece : List ℕ) (cursor moved : Cursor) : Type 0 where
-  pub last : moved.last ≡ token_number token
+  pub last : moved.last ≡ Some (number_of token)
   pub place : moved.place ≡ cursor.place + length piece
 
 -- Each cursor is moved on by what a name adds to its column.

@@ -3,7 +3,7 @@
 ghost use Rattle.std.specs.Prelude.{◌≡◌, [], ◌∷◌, ◌++◌, ◌+◌, ◌≤◌, length};
 ghost use Rattle.base.specs.Numbers.{le_bytes};
 ghost use Rattle.base.specs.Paste.{pasted};
-ghost use Rattle.names_writer.specs.Steps.{token_number, kind_byte, kind_width};
+ghost use Rattle.names_writer.specs.Steps.{number_of, kind_byte, kind_width};
 ghost use Rattle.names_writer.specs.Rows.{Marked};
 ghost use Rattle.names_writer.specs.Pieces.{number_piece, piece_of, place_of, row_piece, written};
 ghost use Rattle.names_writer.specs.Pieces.{PiecesFit, RowMoved};
@@ -15,7 +15,7 @@ use integers::{put_u16, put_u32, put_u64};
 // Where a column that is written has arrived.
 #[derive(Clone, Copy)]
 pub struct Cursor {
-    // The number of the last token, if it is one.
+    // The number of the last token; none before the first.
     pub last: Option<u64>,
     pub place: usize,
 }
@@ -25,6 +25,10 @@ pub const START: Cursor = Cursor {
     last: None,
     place: 0,
 };
+
+// What is written for a token that is no number in a column of steps. Where `measure` finds steps
+// there is no such token; the value only gives `put_row` an answer for every input.
+const NO_NUMBER: u64 = 1_000_000_000_000_000_000;
 
 // Writes one row, each token where its column has arrived, and moves the cursors on.
 pub fn put_row(name: &[u8], marks: &[u8], kinds: &[u8], cursors: &mut [Cursor], out: &mut [u8])
@@ -38,7 +42,7 @@ pub fn put_row(name: &[u8], marks: &[u8], kinds: &[u8], cursors: &mut [Cursor], 
 {
     for (k, cursor) in cursors.iter_mut().enumerate() {
         let token = token_at(name, marks, k);
-        let number = number_of(token);
+        let number = number_of(token).unwrap_or(NO_NUMBER);
         let place = put_piece(
             Kind::from(kinds[k]),
             cursor.last,
@@ -48,7 +52,7 @@ pub fn put_row(name: &[u8], marks: &[u8], kinds: &[u8], cursors: &mut [Cursor], 
             cursor.place,
         );
         *cursor = Cursor {
-            last: number,
+            last: Some(number),
             place,
         };
     }
@@ -59,11 +63,11 @@ fn put_piece(
     kind: Kind,
     last: Option<u64>,
     token: &[u8],
-    number: Option<u64>,
+    number: u64,
     out: &mut [u8],
     at: usize,
 ) -> usize
-    requires number_value { number ≡ token_number token.now }
+    requires number_value { number ≡ number_of token.now }
     requires token_in_bounds { at + length (piece_of last (kind_byte kind) token.now)
         ≤ length out.old }
     ensures { (out.new ≡ pasted out.old at (piece_of last (kind_byte kind) token.now))
@@ -72,9 +76,6 @@ fn put_piece(
     if kind == Kind::Strings {
         return put_string(token, out, at);
     }
-    let Some(number) = number else {
-        return put_string(token, out, at);
-    };
     put_number(kind, last, number, out, at)
 }
 

@@ -76,7 +76,8 @@ fn value_of(token: &[u8]) -> u64
 // ---- The type of a column
 
 impl Kind {
-    // The type with one more number, `previous` being the one before.
+    // The type with one more number, `previous` being the one before. A number of more than 18
+    // digits makes strings of it.
     #[tactic(auto, unfolding(crate::specs::Steps::kind_after))]
     pub fn after(self, previous: u64, number: u64) -> Kind
         ensures { kind_byte result ≡ kind_after (kind_byte self) previous number }

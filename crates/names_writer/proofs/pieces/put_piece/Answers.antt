@@ -1,12 +1,12 @@
 -- `names_writer::pieces::put_piece` meets its contract. Assumes nothing.
-use mathlib.Core.Path.{◌≡◌, sym, ap, ◌∙◌}
+use mathlib.Core.Path.{◌≡◌, ap}
 use mathlib.Core.Bool.{true, false}
 use native.Mathlib.Omega.{arith}
 use borrow.Author.Rules.{rules}
 use lib.Dec.{eqb}
 use lib.ListN.{length}
 use Rattle.names_writer.specs.Steps.{kind_byte}
-use Rattle.names_writer.proofs.PieceLaws.{piece_string, piece_none, piece_number, piece_done}
+use Rattle.names_writer.proofs.PieceLaws.{piece_string, piece_number, piece_done}
 use Rattle.names_writer.proofs.pieces.put_piece.Goals as goal
 use Rattle.names_writer.proofs.pieces.put_piece.Goals.{Then-eq, Else-eq}
 
@@ -33,38 +33,20 @@ returns-then-eq c =
     (piece_string a.last (kind_byte a.kind) a.token.now (strings (goal.at.returns-then-eq c).Then-eq))
     c.put_string.ensures
 
-pub put_string-requires-in_default : goal.put_string-requires-in_default
-put_string-requires-in_default c =
-    let a = c.args in
-    omega (
-      arith,
-      c.requires.token_in_bounds,
-      ap length (piece_none a.last (kind_byte a.kind) a.token.now
-          (sym c.in_default.is ∙ c.requires.number_value)),
-    )
-
-pub returns-in_default : goal.returns-in_default
-returns-in_default c =
-    let a = c.args in
-    piece_done a.out.now _ _ _ a.at _
-    (piece_none a.last (kind_byte a.kind) a.token.now (sym c.in_default.is ∙ c.requires.number_value))
-    c.put_string-in_default.ensures
-
 pub put_number-requires : goal.put_number-requires
 put_number-requires c =
     let a = c.args in
     omega (
       arith,
       c.requires.token_in_bounds,
-      ap length (piece_number a.last (kind_byte a.kind) a.token.now c.in-Some.number
-          (numbers (goal.at.put_number-requires c).Else-eq)
-          (sym c.in-Some.is ∙ c.requires.number_value)),
+      ap length (piece_number a.last (kind_byte a.kind) a.token.now a.number
+          (numbers (goal.at.put_number-requires c).Else-eq) c.requires.number_value),
     )
 
 pub returns : goal.returns
 returns c =
     let a = c.args in
     piece_done a.out.now _ _ _ a.at _
-    (piece_number a.last (kind_byte a.kind) a.token.now c.in-Some.number
-    (numbers (goal.at.returns c).Else-eq) (sym c.in-Some.is ∙ c.requires.number_value))
+    (piece_number a.last (kind_byte a.kind) a.token.now a.number
+    (numbers (goal.at.returns c).Else-eq) c.requires.number_value)
     c.put_number.ensures

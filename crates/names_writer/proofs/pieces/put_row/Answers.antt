@@ -1,9 +1,11 @@
-use Rattle.std.proofs.Common.{◌≡◌, ◌≢◌, ◌∙◌, refl, ap, ap₂, ℕ, ◌+◌, ◌<◌, List, length, get_or, arith, get_or-set_other, get_or-set_same, below_more}
+use Rattle.std.proofs.Common.{◌≡◌, ◌≢◌, ◌∙◌, refl, ap, ap₂, Option, Some, ℕ, ◌+◌, ◌<◌, List, length, get_or, arith, get_or-set_other, get_or-set_same, below_more}
 use Rattle.tokens.specs.WrittenNames.{split_of}
 use Rattle.names_writer.specs.declared.pieces.Cursor.{Cursor}
-use Rattle.names_writer.specs.Steps.{token_number, kind_byte}
+use Rattle.names_writer.specs.Steps.{no_number, number_of, kind_byte}
 use Rattle.names_writer.specs.Rows.{token_of}
 use Rattle.names_writer.specs.Pieces.{cursor_at, place_of, piece_of, row_piece, Moved}
+use Rattle.std.specs.Option.{unwrap_or}
+use Rattle.names_writer.proofs.ValueLaws.{number_or}
 use Rattle.names_writer.proofs.TokenPartLaws.{token_lies, token_is}
 use Rattle.names_writer.proofs.PieceLaws.{piece_kind, written_start, written-turn}
 use Rattle.names_writer.proofs.pieces.put_row.Goals as goal
@@ -30,6 +32,13 @@ token c =
     ∙ token_is c.args.name.now c.args.marks.now c.requires.marked.ends c.loop-k.k
     (inside (goal.at.After-token_at-token c).In-loop-k)
 
+-- The number of the token, or what stands for none.
+number : (c : After-from) → c.unwrap_or-number.result ≡ number_of c.token_at-token.result.now
+number c =
+    c.unwrap_or-number.ensures
+    ∙ ap (λ (o : Option ℕ). unwrap_or o no_number) c.number_of.ensures
+    ∙ number_or c.token_at-token.result.now
+
 -- The cursor is still where it was.
 old : (c : In-loop-k) → cursor_at c.loop-k.cursors c.loop-k.k ≡ cursor_at c.args.cursors.now c.loop-k.k
 old c = c.loop-k.invariant.same c.loop-k.k (omega arith)
@@ -55,7 +64,7 @@ pub put_piece-place-requires : goal.put_piece-place-requires
 put_piece-place-requires c =
     let l = c.loop-k in
     record {
-      number_value = c.number_of-number.ensures;
+      number_value = number (goal.at.put_piece-place-requires c).After-from;
       token_in_bounds =
           omega (
             arith,
@@ -75,11 +84,12 @@ loop-k-preserved c =
     let place = ap (λ (cursor : Cursor). cursor.place) (old (goal.at.loop-k-preserved c).In-loop-k) in
     let moved : Moved (token_of a.name.now l.k) (row_piece a.name.now a.kinds.now a.cursors.now l.k)
     (cursor_at a.cursors.now l.k)
-    (record { last = c.number_of-number.result; place = c.put_piece-place.result }) =
+    (record { last = Some c.unwrap_or-number.result; place = c.put_piece-place.result }) =
     record {
       last =
-          c.number_of-number.ensures
-          ∙ ap token_number (token (goal.at.loop-k-preserved c).After-token_at-token);
+          ap (λ (n : ℕ). Some n) (number (goal.at.loop-k-preserved c).After-from)
+          ∙ ap (λ (t : List ℕ). Some (number_of t))
+          (token (goal.at.loop-k-preserved c).After-token_at-token);
       place =
           c.put_piece-place.ensures.1 ∙ ap₂ (λ (at : ℕ) (bytes : List ℕ). at + length bytes) place is;
     } in
