@@ -86,9 +86,20 @@ fn put_string(token: &[u8], out: &mut [u8], at: usize) -> usize
         × (result ≡ at + length (token.now ++ (0 ∷ []))) }
 {
     let end = at + token.len();
-    out[at..end].copy_from_slice(token);
+    put_bytes(token, out, at);
     out[end] = 0;
     end + 1
+}
+
+// Copies bytes to a place. They are few, and gone through one by one: `copy_from_slice` would have
+// the archive for C ask for memmove.
+pub fn put_bytes(bytes: &[u8], out: &mut [u8], at: usize)
+    requires { at + length bytes.now ≤ length out.old }
+    ensures { out.new ≡ pasted out.old at bytes.now }
+{
+    for k in 0..bytes.len() {
+        out[at + k] = bytes[k];
+    }
 }
 
 // Writes the start of a column, or the step from the number before; the answer is the place after
