@@ -1,20 +1,45 @@
 -- What the writer's rule asks of a candidate, in the terms of this crate: for the caller of
 -- put_entries. Assumes nothing.
-use mathlib.Core.Path.{◌≡◌, sym, ap, ◌∙◌}
+use mathlib.Core.Path.{◌≡◌, sym, ap, ◌∙◌, subst}
 use Prim.Native.Nat.{ℕ, ◌+◌, ◌-◌, ◌≤◌, ◌<◌}
 use native.Mathlib.Omega.{arith}
-use mathlib.Core.Bool.{Bool}
+use mathlib.Core.Bool.{Bool, false, not}
 use mathlib.Core.List.{List}
 use lib.ListN.{length, get_or, drop, length-drop}
 use lib.Seq.{length-take-le, get_or-take, get_or-drop, ext_get_or}
 use lib.Dec.{eqb}
-use Rattle.base.specs.Lists.{part}
+use Rattle.base.specs.Lists.{part, any, member}
+use Rattle.base.proofs.Tests.{any_none, not-false}
+use Rattle.dna.specs.Reference.{alphabet}
 use Rattle.format.specs.RuleEntries.{gaps_of, entries_of_gaps}
 use Rattle.format.specs.RuleRecord.{Candidate, aligned_count, expected_at, candidate_gaps}
 use Rattle.format.specs.RuleRecord.{candidate_entries}
 use Rattle.format.specs.RuleBlock.{code_of_letter}
-use Rattle.mismatches.specs.Entries.{stretch_base, aligned_codes, stretch_entries}
+use Rattle.format.proofs.WritesBlocks.Inputs.{code-back}
+use Rattle.mismatches.specs.Entries.{stretch_base, aligned_codes, stretch_entries, AlignedFits}
 use Rattle.mismatches.proofs.CodeLaws.{length_aligned_codes, get_or_aligned_codes}
+
+-- Letters that do not earn 33 are known.
+pub aligned-fits : (letters : List ℕ) (start aligned : ℕ) → start + aligned ≤ length letters
+    → any (λ letter. not (member letter alphabet)) letters ≡ false
+    → AlignedFits letters start aligned
+aligned-fits letters start aligned inside valid =
+    let size = length_aligned_codes letters start aligned inside in
+    record {
+      inside = inside;
+      known = record {
+        each = λ k h.
+            let low : k < aligned = omega arith in
+            let letter = get_or letters (start + k) 0 in
+            let in-alphabet =
+            not-false _
+            (any_none (λ letter. not (member letter alphabet)) letters valid (start + k) 0
+            (omega arith)) in
+            subst (λ (code : ℕ). code < 5)
+            (sym (get_or_aligned_codes letters start aligned inside k low))
+            (code-back letter in-alphabet).0;
+      };
+    }
 
 -- A part of the codes of a read is the codes of a part.
 aligned-part : (letters : List ℕ) (start size left count : ℕ) → start + size ≤ length letters

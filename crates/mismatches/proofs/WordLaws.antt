@@ -3,7 +3,7 @@
 use mathlib.Core.Path.{◌≡◌, refl, sym, ap, ◌∙◌, subst}
 use Prim.Native.Nat.{ℕ, ◌+◌, ◌-◌, ◌*◌, ◌/◌, ◌%◌, ◌^◌, ◌≤◌, ◌<◌}
 use native.Mathlib.Omega.{arith}
-use mathlib.Core.Bool.{Bool, true, false}
+use mathlib.Core.Bool.{Bool, true, false, cond}
 use mathlib.Core.List.{List}
 use lib.ListN.{length, get_or}
 use Rattle.base.specs.Lists.{AllBytes}
@@ -96,3 +96,10 @@ pub boundary : (forward : Bool) (leftmost aligned from k : ℕ) → from + k + 4
     ≡ piece_leftmost forward leftmost aligned (from + k) 4
 boundary true leftmost aligned from k room whole begins = omega arith
 boundary false leftmost aligned from k room whole begins = omega arith
+
+-- The four letters after those under a byte are under the next byte on their strand.
+pub byte-after : (forward : Bool) (leftmost aligned k i : ℕ) → k + 8 ≤ aligned
+    → 4 * i ≡ piece_leftmost forward leftmost aligned k 4
+    → 4 * cond forward (i + 1) (i - 1) ≡ piece_leftmost forward leftmost aligned (k + 4) 4
+byte-after true leftmost aligned k i room begins = omega arith
+byte-after false leftmost aligned k i room begins = omega arith

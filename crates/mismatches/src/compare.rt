@@ -1,10 +1,11 @@
 // The next letter of a read that differs from the reference. Where the reference is at the boundary
 // of a byte, eight letters are compared at once with two words of the strand's table.
-ghost use Rattle.std.specs.Prelude.{◌≡◌, Bool, ◌+◌, ◌-◌, ◌*◌, ◌%◌, ◌≤◌, ◌<◌, length, MatchOption};
+ghost use Rattle.std.specs.Prelude.{◌≡◌, Bool, false, cond, ◌+◌, ◌-◌, ◌*◌, ◌%◌, ◌^◌, ◌≤◌, ◌<◌, length, MatchOption};
 ghost use Rattle.base.specs.Lists.{AllBytes};
 ghost use Rattle.base.specs.Numbers.{le};
 ghost use Rattle.reference.specs.Stretch.{StretchFits};
 ghost use Rattle.reference.specs.Tables.{word_table};
+ghost use Rattle.mismatches.specs.Entries.{stretch_base};
 
 use integers::u64_at;
 use reference::{letter_of_code, strand_base, stretch_index, two_words};
@@ -79,7 +80,7 @@ impl<'a> Aligned<'a> {
         for k in 0..words {
             let place = from + 8 * k;
             let first = self.lowest_under::<FORWARD>(place) / 4;
-            let second = self.lowest_under::<FORWARD>(place + 4) / 4;
+            let second = byte_after::<FORWARD>(first);
             let given = two_words(self.table, reference[first], reference[second]);
             if eight_letters(letters, place) != given {
                 return place;
@@ -116,9 +117,40 @@ impl<'a> Aligned<'a> {
         requires { place < length self.now.letters.now }
         ensures { result ≡ given_at self.now place }
     {
-        let index = stretch_index(self.forward, self.leftmost, self.letters.len(), place);
-        strand_base(self.reference, self.forward, index)
+        expected_code(
+            self.reference,
+            self.forward,
+            self.leftmost,
+            self.letters.len(),
+            place,
+        )
     }
+}
+
+// What the reference gives at a letter of a stretch of `aligned` letters.
+pub fn expected_code(
+    reference: &[u8],
+    forward: bool,
+    leftmost: usize,
+    aligned: usize,
+    place: usize,
+) -> u8
+    requires { (StretchFits reference.now leftmost aligned) × (place < aligned) }
+    ensures { result ≡ stretch_base reference.now forward leftmost aligned place }
+{
+    let index = stretch_index(forward, leftmost, aligned, place);
+    strand_base(reference, forward, index)
+}
+
+// The byte of the reference under the next four letters, after those that are under a whole byte.
+fn byte_after<const FORWARD: bool>(byte: usize) -> usize
+    requires { (byte < 2 ^ 62) × (FORWARD ≡ false → 0 < byte) }
+    ensures { result ≡ cond FORWARD (byte + 1) (byte - 1) }
+{
+    if FORWARD {
+        return byte + 1;
+    }
+    byte - 1
 }
 
 // The eight letters from `place` on as one number, each letter a byte of it.

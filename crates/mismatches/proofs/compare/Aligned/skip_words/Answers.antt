@@ -1,4 +1,5 @@
-use Prim.Native.Nat.{ℕ, ◌+◌, ◌*◌, ◌/◌, ◌%◌}
+use Prim.Native.Nat.{ℕ, ◌+◌, ◌-◌, ◌*◌, ◌/◌, ◌%◌}
+use mathlib.Core.Bool.{Bool, cond}
 use native.Mathlib.Nat.{zero-add}
 use native.Mathlib.Omega.{arith}
 use mathlib.Core.Path.{◌≡◌, refl, sym, ap, ◌∙◌, subst}
@@ -9,7 +10,7 @@ use Rattle.reference.proofs.Words.{table_fits}
 use Rattle.mismatches.specs.Places.{NoneBetween}
 use Rattle.mismatches.specs.Compared.{differs}
 use Rattle.mismatches.proofs.PlaceLaws.{none_then}
-use Rattle.mismatches.proofs.WordLaws.{eight_passed, boundary}
+use Rattle.mismatches.proofs.WordLaws.{eight_passed, boundary, byte-after}
 use Rattle.mismatches.proofs.compare.Aligned.skip_words.Goals as goal
 
 pub two_words-given-requires : goal.two_words-given-requires
@@ -24,20 +25,16 @@ loop-k-preserved g c =
     let whole : piece_leftmost a.forward a.leftmost n c.args.from 4 % 4 ≡ 0 =
     ap (λ (low : ℕ). low % 4) (sym c.lowest_under.ensures) ∙ c.if-lowest_under-ne0.false in
     let i : ℕ = c.lowest_under-first.result / 4 in
-    let j : ℕ = c.lowest_under-second.result / 4 in
+    let j : ℕ = c.byte_after-second.result in
     let one : 4 * i ≡ piece_leftmost a.forward a.leftmost n place 4 =
     ap (λ (low : ℕ). 4 * (low / 4)) c.lowest_under-first.ensures
     ∙ boundary a.forward a.leftmost n c.args.from (8 * c.loop-k.k) (omega arith) (omega arith)
     whole in
-    let there : c.args.from + (8 * c.loop-k.k + 4) ≡ place + 4 = omega arith in
     let two : 4 * j ≡ piece_leftmost a.forward a.leftmost n (place + 4) 4 =
-    ap (λ (low : ℕ). 4 * (low / 4)) c.lowest_under-second.ensures
-    ∙ subst
-    (λ (k : ℕ). 4 * (piece_leftmost a.forward a.leftmost n k 4 / 4)
-    ≡ piece_leftmost a.forward a.leftmost n k 4)
-    there
-    (boundary a.forward a.leftmost n c.args.from (8 * c.loop-k.k + 4) (omega arith) (omega arith)
-    whole) in
+    ap (λ (byte : ℕ). 4 * byte)
+    (c.byte_after-second.ensures
+    ∙ ap (λ (up : Bool). cond up (i + 1) (i - 1)) (sym c.requires.1))
+    ∙ byte-after a.forward a.leftmost n place i (omega arith) one in
     let passed =
     eight_passed a.letters.now 0 a.reference.now a.forward a.leftmost n c.eight_letters.ensures.1
     (omega arith) a.table.now a.words place i j (get_or a.reference.now i 0)
