@@ -3,13 +3,15 @@ use mathlib.Core.Path.{◌≡◌, refl, sym, ap, ap₂, ◌∙◌, subst}
 use Prim.Native.Nat.{ℕ, zero, suc, ◌+◌, ◌-◌, ◌≤◌, ◌<◌}
 use native.Mathlib.Nat.{not-suc-le-zero, le_of_suc-le-suc}
 use native.Mathlib.Omega.{arith}
-use mathlib.Core.Bool.{true}
+use mathlib.Core.Bool.{true, false, not}
 use mathlib.Core.List.{List, [], ◌∷◌, ◌++◌, map, append-nil}
 use lib.ListN.{length, get_or, take, drop, length-append, length-map, length-drop}
 use lib.ListN.{get_or-map, get_or-append, get_or-eq_default}
 use lib.Seq.{get_or-take, get_or-drop, get_or-append-add, length-take-le, take-length, drop-length}
-use Rattle.base.specs.Lists.{part, member}
+use Rattle.base.specs.Lists.{part, any, member}
+use Rattle.base.proofs.Tests.{any_none, not-false}
 use Rattle.dna.specs.Reference.{alphabet}
+use Rattle.dna.specs.Sizes.{max_read_length}
 use Rattle.format.specs.RuleRecord.{without_n, aligned_count, clipped_codes}
 use Rattle.format.specs.RuleBlock.{code_of_letter}
 use Rattle.letter_packing.specs.Read.{ReadLies, codes_in, ReadFits, codes_of}
@@ -34,6 +36,20 @@ lies-fits {letters} {from} {to} lies =
           (sym (get_or-take (to - from) (drop from letters) i 0 (omega (arith, size))
           ∙ get_or-drop from letters i 0))
           (lies.known (from + i) (omega arith) (omega (arith, size)));
+    }
+
+-- A read of letters of which 33 refuses none.
+pub known-lies : (letters : List ℕ) (from to : ℕ)
+    → any (λ letter. not (member letter alphabet)) letters ≡ false → from ≤ to
+    → to ≤ length letters → to ≤ from + max_read_length → ReadLies letters from to
+known-lies letters from to none order inside sized =
+    record {
+      ordered = order;
+      inside = inside;
+      sized = sized;
+      known = λ i above below.
+          not-false _ (any_none (λ letter. not (member letter alphabet)) letters none i 0
+          (omega arith));
     }
 
 -- Its codes are those of the stretch.
