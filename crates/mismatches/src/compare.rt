@@ -1,6 +1,7 @@
 // The next letter of a read that differs from the reference. Where the reference is at the boundary
 // of a byte, eight letters are compared at once with two words of the strand's table.
-ghost use Rattle.std.specs.Prelude.{◌≡◌, Bool, false, cond, ◌+◌, ◌-◌, ◌*◌, ◌%◌, ◌^◌, ◌≤◌, ◌<◌, length, MatchOption};
+ghost use Rattle.std.specs.Prelude.{◌≡◌, Bool, false, cond, ◌+◌, ◌-◌, ◌*◌, ◌%◌, ◌^◌, ◌≤◌, ◌<◌};
+ghost use Rattle.std.specs.Prelude.{length, MatchOption};
 ghost use Rattle.base.specs.Lists.{AllBytes};
 ghost use Rattle.base.specs.Numbers.{le};
 ghost use Rattle.reference.specs.Stretch.{StretchFits};

@@ -127,6 +127,44 @@ impl Kind {
     }
 }
 
+// The type byte of a column with one more number, for any byte: one that is no type goes on as the
+// types of steps do.
+#[tactic(auto, unfolding(crate::specs::Steps::kind_after))]
+pub fn kind_after(kind: u8, previous: u64, number: u64) -> u8
+    ensures { result ≡ kind_after kind previous number }
+{
+    if kind == 0 {
+        return 0;
+    }
+    if MAX_NUMBER < number {
+        return 0;
+    }
+    if previous > number {
+        return 0;
+    }
+    if MAX_STEP < number - previous {
+        return 0;
+    }
+    widened(kind, number - previous)
+}
+
+// The narrowest type byte of the steps so far and one more.
+#[tactic(auto, unfolding(crate::specs::Steps::widened, tokens::specs::Columns::step_type))]
+fn widened(kind: u8, step: u64) -> u8
+    ensures { result ≡ widened kind step }
+{
+    if 65_535 < step {
+        return 5;
+    }
+    if step < 256 {
+        return kind;
+    }
+    if kind == 5 {
+        return 5;
+    }
+    3
+}
+
 impl From<Kind> for u8 {
     ghost from_gives = { λ kind byte. byte ≡ kind_byte kind };
 
