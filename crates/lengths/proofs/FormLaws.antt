@@ -167,6 +167,28 @@ module _ (ends : List ℕ) (i before : ℕ) (previous : Option ℕ) (end size : 
         length_is = ap Some size_is ∙ sym (ap (length_before ends) e);
       }
 
+-- The same where code takes the length of each read from the ends.
+module _ (ends : List ℕ) (i size : ℕ) (inside : i < length ends)
+    (is : size ≡ get_or (steps_from 0 ends) i 0) where
+  pub known_stored : (previous : Option ℕ) → previous ≡ length_before ends i
+      → stored_after previous size ≡ get_or (stored_of ends) i (in_words 0)
+  known_stored previous known =
+      ap (λ (p : Option ℕ). stored_after p size) known
+      ∙ ap (stored_after (length_before ends i)) is
+      ∙ sym (stored_at ends i inside)
+
+  -- As the first of a group.
+  pub known_first : (previous : Option ℕ) → previous ≡ length_before ends i
+      → stored_after previous size ≡ get_or (stored_of ends) (i + 0) (in_words 0)
+  known_first previous known =
+      known_stored previous known
+      ∙ ap (λ (j : ℕ). get_or (stored_of ends) j (in_words 0)) (omega arith)
+
+  pub known_turn : (j : ℕ) → j ≡ i + 1 → Some size ≡ length_before ends j
+  unfolding length_before
+  known_turn j next =
+      let e : j ≡ suc i = omega arith in ap Some is ∙ sym (ap (length_before ends) e)
+
 -- ---- Before a read
 
 module _ (ends : List ℕ) (i : ℕ) where

@@ -7,6 +7,7 @@ use mathlib.Core.List.{List, [], ◌∷◌, ◌++◌, flat_map, append_assoc}
 use lib.ListN.{length, get_or, take, drop, length-take, length-drop, length-append}
 use lib.Seq.{drop-cons, drop-drop, drop_at, take-take, take-append-le, length-take-le, get_or-take, get_or-drop}
 use Rattle.base.specs.Lists.{part, total}
+use Rattle.base.proofs.ListLaws.{by_order}
 use Rattle.base.specs.Groups.{group_count}
 use Rattle.base.specs.Numbers.{le_bytes}
 use Rattle.base.specs.Paste.{pasted}
@@ -40,17 +41,15 @@ length-group ends from =
     ∙ ap (min 8)
     (length-drop from (stored_of ends) ∙ ap (λ (n : ℕ). n - from) (length-stored_of ends))
 
--- The ends of the reads of a group, lent as a slice.
-module _ (ends : List ℕ) (from reads : ℕ) (all : reads ≡ min 8 (length ends - from)) where
-  pub length-lent : length (take (from + reads - from) (drop from ends)) ≡ reads
-  length-lent =
-      omega
-      (arith, all, length-take (from + reads - from) (drop from ends), length-drop from ends)
+-- The ends of the reads from `from` on up to `to`, lent as a slice.
+module _ (ends : List ℕ) (from to : ℕ) (inside : to ≤ length ends) where
+  pub length-lent : length (take (to - from) (drop from ends)) ≡ to - from
+  length-lent = omega (arith, length-take (to - from) (drop from ends), length-drop from ends)
 
-  pub lent_at : (k : ℕ) → k < reads
-      → get_or (take (from + reads - from) (drop from ends)) k 0 ≡ get_or ends (from + k) 0
+  pub lent_at : (k : ℕ) → k < to - from
+      → get_or (take (to - from) (drop from ends)) k 0 ≡ get_or ends (from + k) 0
   lent_at k h =
-      get_or-take (from + reads - from) (drop from ends) k 0 (omega arith) ∙ get_or-drop from ends k 0
+      get_or-take (to - from) (drop from ends) k 0 h ∙ get_or-drop from ends k 0
 
 module _ (ends : List ℕ) (from k : ℕ) (inside : k < min 8 (length ends - from))
     (stored : StoredSize) (is : stored ≡ get_or (stored_of ends) (from + k) (in_words 0)) where
@@ -186,6 +185,50 @@ pub count_end : (ends : List ℕ) (i : ℕ) → length ends ≤ i → stored_tot
 unfolding total
 count_end ends i all =
     ap stored_total (drop_all i (stored_of ends) (omega (arith, length-stored_of ends)))
+
+-- What some take, and what the others take.
+parts_total : (count : ℕ) (stored : List StoredSize)
+    → stored_total stored
+    ≡ length (flat_map stored_bytes (take count stored)) + stored_total (drop count stored)
+unfolding flat_map total
+parts_total zero stored = omega arith
+parts_total (suc count) [] = omega arith
+parts_total (suc count) (one ∷ stored) =
+    omega (
+      arith,
+      parts_total count stored,
+      length-append (stored_bytes one)
+          (flat_map stored_bytes (take count stored)),
+    )
+
+module _ (ends : List ℕ) (from : ℕ) where
+  -- A part of 1,024 reads, and the reads past it.
+  pub part_total : stored_total (drop from (stored_of ends))
+      ≡ length (flat_map stored_bytes (part (stored_of ends) from 1024))
+      + stored_total (drop (from + 1024) (stored_of ends))
+  part_total =
+      parts_total 1024 (drop from (stored_of ends))
+      ∙ ap (λ (list : List StoredSize). length (flat_map stored_bytes
+      (part (stored_of ends) from 1024)) + stored_total list)
+      (drop-drop 1024 from (stored_of ends))
+
+  -- A part is counted up to its end, or that of all reads.
+  pub part_end : (i sum : ℕ) → i ≡ min (from + 1024) (length ends)
+      → sum + stored_total (drop i (stored_of ends)) ≡ stored_total (drop from (stored_of ends))
+      → sum ≡ length (flat_map stored_bytes (part (stored_of ends) from 1024))
+  part_end i sum last counted =
+      by_order (from + 1024) (length ends)
+      (λ inside.
+      let e : i ≡ from + 1024 = omega (arith, last) in
+      omega (arith, counted, part_total, ap (λ (j : ℕ). stored_total (drop j (stored_of ends))) e))
+      (λ past.
+      omega (
+        arith,
+        counted,
+        part_total,
+        count_end ends i (omega (arith, last)),
+        count_end ends (from + 1024) past,
+      ))
 
 -- ---- A whole group
 

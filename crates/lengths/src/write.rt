@@ -3,6 +3,7 @@
 // base. Each `requires` of a public function is one that encoding has tested before: at most 50,000
 // reads, and room for the bytes.
 ghost use Rattle.std.specs.Prelude.{◌≡◌, ◌+◌, ◌≤◌, ◌<◌, length, get_or};
+ghost use mathlib.Core.List.{flat_map};
 ghost use Rattle.base.specs.Lists.{part, steps_from};
 ghost use Rattle.base.specs.Paste.{pasted};
 ghost use Rattle.dna.specs.Sizes.{stored_bytes, size_group_bytes, size_section_bytes};
@@ -20,6 +21,9 @@ use varint16::{put_words, words_length};
 
 // A length below it takes one byte.
 const BYTE_LIMIT: u32 = 256;
+
+// How many reads are counted in one sum of 32 bits.
+const PART: usize = 1024;
 
 // Where the writing of a group stands.
 #[derive(Clone, Copy)]
@@ -39,13 +43,8 @@ pub fn sizes_length(ends: &[u32]) -> usize
     ensures { result ≡ length (size_section_bytes (stored_of ends.now)) }
 {
     let mut sum = ends.len().div_ceil(8) * 2;
-    let mut before: u32 = 0;
-    let mut previous: Option<u32> = None;
-    for end in ends {
-        let size = end.saturating_sub(before);
-        sum += stored_length(size, previous);
-        before = *end;
-        previous = Some(size);
+    for part in 0..ends.len().div_ceil(PART) {
+        sum += part_length(ends, PART * part) as usize;
     }
     sum
 }
@@ -65,6 +64,25 @@ pub fn put_sizes(ends: &[u32], out: &mut [u8], at: usize) -> usize
     place
 }
 
+// How many bytes the lengths of the part of the reads from `from` on take. The sum of a part fits
+// 32 bits, as lengths do, and so several reads are counted at a time.
+fn part_length(ends: &[u32], from: usize) -> u32
+    requires { (from < length ends.now) × (length ends.now ≤ max_reads) }
+    ensures { result ≡ length (flat_map stored_bytes (part (stored_of ends.now) from 1024)) }
+{
+    let reads = (ends.len() - from).min(PART);
+    let mut sum: u32 = 0;
+    let mut before = end_before(ends, from);
+    let mut previous = length_before(ends, from);
+    for end in &ends[from..from + reads] {
+        let size = end.saturating_sub(before);
+        sum += stored_length(size, previous) as u32;
+        before = *end;
+        previous = Some(size);
+    }
+    sum
+}
+
 // Writes the group of the reads from `from` on: its sizes, then its two flag bytes before them.
 fn put_group(ends: &[u32], from: usize, out: &mut [u8], at: usize) -> usize
     requires from_in_bounds { (from < length ends.now) × (length ends.now ≤ max_reads) }
@@ -75,17 +93,16 @@ fn put_group(ends: &[u32], from: usize, out: &mut [u8], at: usize) -> usize
         × (result ≡ at + length (size_group_bytes (part (stored_of ends.now) from 8))) }
 {
     let reads = (ends.len() - from).min(8);
-    let mut before = end_before(ends, from);
-    let mut previous = length_before(ends, from);
-    let mut writer = GroupWriter {
+    let start = GroupWriter {
         place: at + 2,
         flags: 0,
     };
-    for end in &ends[from..from + reads] {
-        let size = end.saturating_sub(before);
-        writer = put_size(size, previous, out, writer);
-        before = *end;
-        previous = Some(size);
+    let mut last = length_at(ends, from);
+    let mut writer = put_size(last, length_before(ends, from), out, start);
+    for k in 1..reads {
+        let size = length_at(ends, from + k);
+        writer = put_size(size, Some(last), out, writer);
+        last = size;
     }
     integers::put_u16(out, at, writer.flags << (8 - reads));
     writer.place
