@@ -19,7 +19,7 @@ use Rattle.std.proofs.Common.{None}
 use Rattle.names_writer.specs.declared.pieces.Cursor.{Cursor}
 use Rattle.names_writer.specs.Pieces.{cursor_at, place_of, Started}
 use Rattle.names_writer.specs.Arrived.{pieces_of, part_bytes, column_part, column_lengths}
-use Rattle.names_writer.specs.Arrived.{column_start, columns_end, last_written, Arrived}
+use Rattle.names_writer.specs.Arrived.{column_start, columns_end, last_written, TypedArrived}
 use Rattle.names_writer.proofs.MeasuredLaws.{length_column}
 use Rattle.names_writer.proofs.TableLaws.{columns_map, count_columns, length-columns}
 use Rattle.names_writer.proofs.ColumnPieceLaws.{pieces-joined, part_none, count_pieces}
@@ -81,7 +81,7 @@ lengths-map (column ∷ columns) =
 
 -- The columns stand one after the other.
 columns-stand : (names : List (List ℕ)) (front back : List ℕ) (cursors : List Cursor) (new : List ℕ)
-    → Arrived names front back (length names) cursors new → 0 < length names
+    → TypedArrived names front back (length names) cursors new → 0 < length names
     → At new (length front) (flat_map column_bytes (columns_for names))
 unfolding column_start columns_end
 columns-stand names front back cursors new so some =
@@ -108,12 +108,12 @@ module _ (names : List (List ℕ)) (start : ℕ) (out : List ℕ)
   unfolding columns_end
   front_length = length-take-le start out (omega arith)
 
-  pub arrived_start : (cursors : List Cursor) → length cursors ≡ token_count names
+  pub typed_arrived_start : (cursors : List Cursor) → length cursors ≡ token_count names
       → ((k : ℕ) → k < token_count names → (cursor_at cursors k).last ≡ None)
       → ((k : ℕ) → k < token_count names → place_of cursors k ≡ column_start start names k)
-      → Arrived names (take start out) (drop (columns_end start names) out) 0 cursors out
+      → TypedArrived names (take start out) (drop (columns_end start names) out) 0 cursors out
   unfolding column_part columns_end last_written
-  arrived_start cursors counted first there =
+  typed_arrived_start cursors counted first there =
       let low = front_length in
       let none : (k : ℕ) → length (column_part names k 0) ≡ 0 =
       λ k. ap length (part_none (column_for (tokens_at names k))) in
@@ -140,11 +140,11 @@ module _ (names : List (List ℕ)) (start : ℕ) (out : List ℕ)
 
   -- ---- After the last row
 
-  pub arrived_end : (cursors : List Cursor) (new : List ℕ)
-      → Arrived names (take start out) (drop (columns_end start names) out) (length names) cursors new
+  pub typed_arrived_end : (cursors : List Cursor) (new : List ℕ)
+      → TypedArrived names (take start out) (drop (columns_end start names) out) (length names) cursors new
       → 0 < length names → new ≡ pasted out start (flat_map column_bytes (columns_for names))
   unfolding pasted
-  arrived_end cursors new so some =
+  typed_arrived_end cursors new so some =
       let front : List ℕ = take start out in
       let back : List ℕ = drop (columns_end start names) out in
       let columns : List ℕ = flat_map column_bytes (columns_for names) in

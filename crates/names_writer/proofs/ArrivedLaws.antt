@@ -15,13 +15,13 @@ use Rattle.tokens.specs.WrittenNames.{column_for, columns_for, token_count, toke
 use Rattle.names_writer.specs.declared.pieces.Cursor.{Cursor}
 use Rattle.names_writer.specs.Steps.{number_of}
 use Rattle.names_writer.specs.Rows.{token_of}
-use Rattle.names_writer.specs.Pieces.{cursor_at, place_of, piece_of, row_piece, written}
-use Rattle.names_writer.specs.Pieces.{PiecesFit, RowMoved}
+use Rattle.names_writer.specs.Pieces.{cursor_at, place_of, typed_piece, typed_row_piece, written}
+use Rattle.names_writer.specs.Pieces.{PiecesFit, TypedRowMoved}
 use Rattle.names_writer.specs.Arrived.{pieces_of, column_part, column_lengths, column_start}
-use Rattle.names_writer.specs.Arrived.{columns_end, last_written, Arrived}
+use Rattle.names_writer.specs.Arrived.{columns_end, last_written, TypedArrived}
 use Rattle.names_writer.proofs.MeasuredLaws.{length_column, column_token}
 use Rattle.names_writer.proofs.TableLaws.{columns_map}
-use Rattle.names_writer.proofs.ColumnPieceLaws.{piece_at, count_pieces, part_length, part_more}
+use Rattle.names_writer.proofs.ColumnPieceLaws.{typed_piece_at, count_pieces, part_length, part_more}
 use Rattle.names_writer.proofs.ColumnStartLaws.{length_at, columns_apart, columns_inside}
 use Rattle.names_writer.proofs.ColumnStartLaws.{starts_low}
 use Rattle.names_writer.proofs.StandingLaws.{Regions, length_written, front_stays, back_stays}
@@ -40,14 +40,14 @@ kind-stands names kinds stands k h =
     ∙ get_or-build n f k 0 h
 
 module _ (names : List (List ℕ)) (front back : List ℕ) (i : ℕ) (cursors : List Cursor)
-    (out : List ℕ) (so : Arrived names front back i cursors out) (inside : i < length names)
+    (out : List ℕ) (so : TypedArrived names front back i cursors out) (inside : i < length names)
     (kinds : List ℕ) (typed : At kinds 0 (map column_type (columns_for names))) (name : List ℕ)
     (is : name ≡ get_or names i []) where
   abbrev count : ℕ
   count = length cursors
 
   abbrev piece : ℕ → List ℕ
-  piece = row_piece name kinds cursors
+  piece = typed_row_piece name kinds cursors
 
   abbrev base : ℕ
   base = length front
@@ -55,9 +55,9 @@ module _ (names : List (List ℕ)) (front back : List ℕ) (i : ℕ) (cursors : 
   piece_is : (k : ℕ) → k < token_count names
       → piece k ≡ get_or (pieces_of (column_for (tokens_at names k))) i []
   piece_is k h =
-      ap (piece_of (cursor_at cursors k).last (get_or kinds k 0))
+      ap (typed_piece (cursor_at cursors k).last (get_or kinds k 0))
       (ap (λ (n : List ℕ). token_of n k) is ∙ sym (column_token names i k))
-      ∙ piece_at (tokens_at names k) i (get_or kinds k 0) (cursor_at cursors k).last
+      ∙ typed_piece_at (tokens_at names k) i (get_or kinds k 0) (cursor_at cursors k).last
       (omega (arith, length_column names k)) (kind-stands names kinds typed k h) (so.last k h)
 
   part_next : (k : ℕ) → k < token_count names
@@ -98,8 +98,8 @@ module _ (names : List (List ℕ)) (front back : List ℕ) (i : ℕ) (cursors : 
   room = omega (arith, so.sized)
 
   -- The row fits.
-  pub row_fits : PiecesFit out (place_of cursors) (row_piece name kinds cursors) (length cursors)
-  row_fits =
+  pub typed_row_fits : PiecesFit out (place_of cursors) (typed_row_piece name kinds cursors) (length cursors)
+  typed_row_fits =
       record {
         each = λ k h.
             let l : k < token_count names = omega (arith, so.counted) in
@@ -107,12 +107,12 @@ module _ (names : List (List ℕ)) (front back : List ℕ) (i : ℕ) (cursors : 
       }
 
   -- It is written.
-  pub arrived_next : (cursors' : List Cursor) (out' : List ℕ) → length cursors' ≡ length cursors
-      → RowMoved name kinds cursors cursors'
-      → out' ≡ written out (place_of cursors) (row_piece name kinds cursors) (length cursors)
-      → Arrived names front back (i + 1) cursors' out'
+  pub typed_arrived_next : (cursors' : List Cursor) (out' : List ℕ) → length cursors' ≡ length cursors
+      → TypedRowMoved name kinds cursors cursors'
+      → out' ≡ written out (place_of cursors) (typed_row_piece name kinds cursors) (length cursors)
+      → TypedArrived names front back (i + 1) cursors' out'
   unfolding last_written
-  arrived_next cursors' out' same moved done =
+  typed_arrived_next cursors' out' same moved done =
       let s : ℕ → ℕ = column_start base names in
       let z : ℕ → ℕ = λ k. get_or (column_lengths names) k 0 in
       let e : ℕ = columns_end base names in

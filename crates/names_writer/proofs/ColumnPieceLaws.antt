@@ -18,7 +18,7 @@ use Rattle.tokens.specs.Columns.{Column, strings, rising, column_type, column_by
 use Rattle.tokens.specs.WrittenNames.{not_number, value_of, steps_invalid, steps_of, width_for}
 use Rattle.tokens.specs.WrittenNames.{not_rising, column_for}
 use Rattle.names_writer.specs.Steps.{number_of}
-use Rattle.names_writer.specs.Pieces.{number_piece, piece_of}
+use Rattle.names_writer.specs.Pieces.{number_piece, typed_piece}
 use Rattle.names_writer.specs.Arrived.{pieces_of, part_bytes, last_written}
 use Rattle.names_writer.proofs.KindLaws.{last-number}
 use Rattle.names_writer.proofs.SectionLaws.{width_is, count-steps}
@@ -118,9 +118,9 @@ module _ (tokens : List (List ℕ)) where
       ∙ mapped_at (le_bytes width) (steps_of numbers) j 0 (omega (arith, count-steps tokens))
 
   piece_by : (test : Bool) → not_rising tokens ≡ test → (i : ℕ) → i < length tokens
-      → piece_of (last_written tokens i) (column_type (column_by test)) (get_or tokens i [])
+      → typed_piece (last_written tokens i) (column_type (column_by test)) (get_or tokens i [])
       ≡ get_or (pieces_of (column_by test)) i []
-  unfolding piece_of column_type pieces_of not_rising
+  unfolding typed_piece column_type pieces_of not_rising
   piece_by true is i inside = mapped_at (λ token. token ++ (0 ∷ [])) tokens i [] inside
   piece_by false is i inside =
       let w = width_is (steps_of numbers) in
@@ -130,12 +130,12 @@ module _ (tokens : List (List ℕ)) where
       (number_piece (last_written tokens i) n (number_of token))) w.steps w.wide
       ∙ rising-at none i inside
 
-  pub piece_at : (i kind : ℕ) (last : Option ℕ) → i < length tokens
+  pub typed_piece_at : (i kind : ℕ) (last : Option ℕ) → i < length tokens
       → kind ≡ column_type (column_for tokens) → last ≡ last_written tokens i
-      → piece_of last kind (get_or tokens i []) ≡ get_or (pieces_of (column_for tokens)) i []
+      → typed_piece last kind (get_or tokens i []) ≡ get_or (pieces_of (column_for tokens)) i []
   unfolding column_for
-  piece_at i kind last inside is before =
-      ap₂ (λ (l : Option ℕ) (n : ℕ). piece_of l n (get_or tokens i [])) before is
+  typed_piece_at i kind last inside is before =
+      ap₂ (λ (l : Option ℕ) (n : ℕ). typed_piece l n (get_or tokens i [])) before is
       ∙ piece_by (not_rising tokens) refl i inside
 
   -- A piece a token.

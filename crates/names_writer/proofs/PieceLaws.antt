@@ -15,7 +15,7 @@ use Rattle.tokens.specs.Columns.{step_type}
 use Rattle.names_writer.specs.declared.steps.Kind.{Kind}
 use Rattle.names_writer.specs.declared.steps.Kind.TheVariants.{Strings, Steps16, Steps8, Steps32}
 use Rattle.names_writer.specs.Steps.{number_of, kind_byte, kind_width}
-use Rattle.names_writer.specs.Pieces.{number_piece, piece_of, written}
+use Rattle.names_writer.specs.Pieces.{number_piece, typed_piece, written}
 
 -- ---- A step
 
@@ -64,23 +64,23 @@ module _ (last : Option ℕ) (width number : ℕ) where
 -- ---- A piece
 
 module _ (last : Option ℕ) (kind : ℕ) (token : List ℕ) where
-  pub piece_string : eqb kind 0 ≡ true → piece_of last kind token ≡ token ++ (0 ∷ [])
-  unfolding piece_of
-  piece_string e = rw e
+  pub typed_string : eqb kind 0 ≡ true → typed_piece last kind token ≡ token ++ (0 ∷ [])
+  unfolding typed_piece
+  typed_string e = rw e
 
-  pub piece_number : (number : ℕ) → eqb kind 0 ≡ false → number ≡ number_of token
-      → piece_of last kind token ≡ number_piece last (kind_width kind) number
-  unfolding piece_of
-  piece_number number other e =
+  pub typed_number : (number : ℕ) → eqb kind 0 ≡ false → number ≡ number_of token
+      → typed_piece last kind token ≡ number_piece last (kind_width kind) number
+  unfolding typed_piece
+  typed_number number other e =
       ap (λ (s : Bool). cond s (token ++ (0 ∷ []))
       (number_piece last (kind_width kind) (number_of token))) other
       ∙ ap (number_piece last (kind_width kind)) (sym e)
 
 -- The type may be given by its byte.
-pub piece_kind : (last : Option ℕ) (kind byte : ℕ) (token : List ℕ) → eqb kind 0 ≡ eqb byte 0
-    → kind_width kind ≡ kind_width byte → piece_of last kind token ≡ piece_of last byte token
-unfolding piece_of
-piece_kind last kind byte token e f =
+pub typed_kind : (last : Option ℕ) (kind byte : ℕ) (token : List ℕ) → eqb kind 0 ≡ eqb byte 0
+    → kind_width kind ≡ kind_width byte → typed_piece last kind token ≡ typed_piece last byte token
+unfolding typed_piece
+typed_kind last kind byte token e f =
     ap₂ (λ (s : Bool) (w : ℕ). cond s (token ++ (0 ∷ []))
     (number_piece last w (number_of token))) e f
 

@@ -39,7 +39,7 @@ last_written tokens zero = None
 last_written tokens (suc i) = Some (number_of (get_or tokens i []))
 
 -- The buffer has `front`, the columns of the first i names, each from its start on, and `back`.
-pub record Arrived (names : List (List ℕ)) (front back : List ℕ) (i : ℕ)
+pub record TypedArrived (names : List (List ℕ)) (front back : List ℕ) (i : ℕ)
     (cursors : List Cursor) (out : List ℕ) : Type 0 where
   pub counted : length cursors ≡ token_count names
   pub last : (k : ℕ) → k < token_count names

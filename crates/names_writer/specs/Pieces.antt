@@ -15,8 +15,8 @@ number_piece None width number = le_bytes 8 number
 number_piece (Some previous) width number = le_bytes width (number - previous)
 
 -- A string and its zero byte, or a number, `no_number` for a token that is none.
-unfoldable pub piece_of : (last : Option ℕ) (kind : ℕ) (token : List ℕ) → List ℕ
-piece_of last kind token =
+unfoldable pub typed_piece : (last : Option ℕ) (kind : ℕ) (token : List ℕ) → List ℕ
+typed_piece last kind token =
     cond (eqb kind string_type) (token ++ (0 ∷ []))
     (number_piece last (kind_width kind) (number_of token))
 
@@ -28,9 +28,9 @@ abbrev pub place_of : (cursors : List Cursor) (k : ℕ) → ℕ
 place_of cursors k = (cursor_at cursors k).place
 
 -- What token k of a name adds to column k.
-abbrev pub row_piece : (name kinds : List ℕ) (cursors : List Cursor) (k : ℕ) → List ℕ
-row_piece name kinds cursors k =
-    piece_of (cursor_at cursors k).last (get_or kinds k 0) (token_of name k)
+abbrev pub typed_row_piece : (name kinds : List ℕ) (cursors : List Cursor) (k : ℕ) → List ℕ
+typed_row_piece name kinds cursors k =
+    typed_piece (cursor_at cursors k).last (get_or kinds k 0) (token_of name k)
 
 -- A buffer after so many pieces are written, each at its place.
 unfoldable pub written : (buffer : List ℕ) (place : ℕ → ℕ) (piece : ℕ → List ℕ) (count : ℕ)
@@ -45,14 +45,14 @@ pub record PiecesFit (buffer : List ℕ) (place : ℕ → ℕ) (piece : ℕ → 
   pub each : (k : ℕ) → k < count → place k + length (piece k) ≤ length buffer
 
 -- A cursor is moved on by a piece.
-pub record Moved (token piece : List ℕ) (cursor moved : Cursor) : Type 0 where
+pub record TypedMoved (token piece : List ℕ) (cursor moved : Cursor) : Type 0 where
   pub last : moved.last ≡ Some (number_of token)
   pub place : moved.place ≡ cursor.place + length piece
 
 -- Each cursor is moved on by what a name adds to its column.
-pub record RowMoved (name kinds : List ℕ) (old new : List Cursor) : Type 0 where
+pub record TypedRowMoved (name kinds : List ℕ) (old new : List Cursor) : Type 0 where
   pub each : (k : ℕ) → k < length old
-      → Moved (token_of name k) (row_piece name kinds old k) (cursor_at old k) (cursor_at new k)
+      → TypedMoved (token_of name k) (typed_row_piece name kinds old k) (cursor_at old k) (cursor_at new k)
 
 -- Each cursor is where its column starts, the first at `start`.
 pub record Started (start : ℕ) (sizes : List ℕ) (cursors : List Cursor) : Type 0 where

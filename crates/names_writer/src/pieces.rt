@@ -5,8 +5,8 @@ ghost use Rattle.base.specs.Numbers.{le_bytes};
 ghost use Rattle.base.specs.Paste.{pasted};
 ghost use Rattle.names_writer.specs.Steps.{number_of, kind_byte, kind_width};
 ghost use Rattle.names_writer.specs.Rows.{Marked};
-ghost use Rattle.names_writer.specs.Pieces.{number_piece, piece_of, place_of, row_piece, written};
-ghost use Rattle.names_writer.specs.Pieces.{PiecesFit, RowMoved};
+ghost use Rattle.names_writer.specs.Pieces.{number_piece, typed_piece, place_of, typed_row_piece, written};
+ghost use Rattle.names_writer.specs.Pieces.{PiecesFit, TypedRowMoved};
 
 use crate::parts::token_at;
 use crate::steps::{Kind, number_of};
@@ -27,23 +27,29 @@ pub const START: Cursor = Cursor {
 };
 
 // What is written for a token that is no number in a column of steps. Where `measure` finds steps
-// there is no such token; the value only gives `put_row` an answer for every input.
+// there is no such token; the value only gives `put_typed_row` an answer for every input.
 const NO_NUMBER: u64 = 1_000_000_000_000_000_000;
 
 // Writes one row, each token where its column has arrived, and moves the cursors on.
-pub fn put_row(name: &[u8], marks: &[u8], kinds: &[u8], cursors: &mut [Cursor], out: &mut [u8])
+pub fn put_typed_row(
+    name: &[u8],
+    marks: &[u8],
+    kinds: &[u8],
+    cursors: &mut [Cursor],
+    out: &mut [u8],
+)
     requires marked { Marked name.now marks.now (length cursors.old) }
     requires kinds_room { length cursors.old ≤ length kinds.now }
     requires pieces_fit { PiecesFit out.old (place_of cursors.old)
-        (row_piece name.now kinds.now cursors.old) (length cursors.old) }
-    ensures moved { RowMoved name.now kinds.now cursors.old cursors.new }
+        (typed_row_piece name.now kinds.now cursors.old) (length cursors.old) }
+    ensures moved { TypedRowMoved name.now kinds.now cursors.old cursors.new }
     ensures written { out.new ≡ written out.old (place_of cursors.old)
-        (row_piece name.now kinds.now cursors.old) (length cursors.old) }
+        (typed_row_piece name.now kinds.now cursors.old) (length cursors.old) }
 {
     for (k, cursor) in cursors.iter_mut().enumerate() {
         let token = token_at(name, marks, k);
         let number = number_of(token).unwrap_or(NO_NUMBER);
-        let place = put_piece(
+        let place = put_typed_piece(
             Kind::from(kinds[k]),
             cursor.last,
             token,
@@ -59,7 +65,7 @@ pub fn put_row(name: &[u8], marks: &[u8], kinds: &[u8], cursors: &mut [Cursor], 
 }
 
 // Writes what a token adds to its column; the answer is the place after it.
-fn put_piece(
+fn put_typed_piece(
     kind: Kind,
     last: Option<u64>,
     token: &[u8],
@@ -68,10 +74,10 @@ fn put_piece(
     at: usize,
 ) -> usize
     requires number_value { number ≡ number_of token.now }
-    requires token_in_bounds { at + length (piece_of last (kind_byte kind) token.now)
+    requires token_in_bounds { at + length (typed_piece last (kind_byte kind) token.now)
         ≤ length out.old }
-    ensures { (out.new ≡ pasted out.old at (piece_of last (kind_byte kind) token.now))
-        × (result ≡ at + length (piece_of last (kind_byte kind) token.now)) }
+    ensures { (out.new ≡ pasted out.old at (typed_piece last (kind_byte kind) token.now))
+        × (result ≡ at + length (typed_piece last (kind_byte kind) token.now)) }
 {
     if kind == Kind::Strings {
         return put_string(token, out, at);

@@ -10,7 +10,7 @@ ghost use Rattle.names_writer.specs.Measured.{NamesFit};
 ghost use Rattle.names_writer.specs.Arrived.{column_lengths};
 
 use crate::parts::part_at;
-use crate::pieces::{Cursor, put_row};
+use crate::pieces::{Cursor, put_typed_row};
 use crate::table::put_starts;
 use crate::tokeniser::split_name;
 
@@ -41,6 +41,6 @@ pub fn put_columns(
     for i in 0..ends.len() {
         let name = part_at(names, ends, i);
         split_name(name, marks);
-        put_row(name, marks, kinds, cursors, out);
+        put_typed_row(name, marks, kinds, cursors, out);
     }
 }
