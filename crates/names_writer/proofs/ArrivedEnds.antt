@@ -17,9 +17,11 @@ use Rattle.tokens.specs.Columns.{Column, column_bytes}
 use Rattle.tokens.specs.WrittenNames.{column_for, columns_for, token_count, tokens_at}
 use Rattle.std.proofs.Common.{None}
 use Rattle.names_writer.specs.declared.pieces.Cursor.{Cursor}
+use Rattle.names_writer.specs.Measured.{last_number}
 use Rattle.names_writer.specs.Pieces.{cursor_at, place_of, Started}
 use Rattle.names_writer.specs.Arrived.{pieces_of, part_bytes, column_part, column_lengths}
-use Rattle.names_writer.specs.Arrived.{column_start, columns_end, last_written, TypedArrived}
+use Rattle.names_writer.specs.Arrived.{column_start, columns_end, last_written, Arrived, TypedArrived}
+use Rattle.names_writer.proofs.PlacedLaws.{Placed, placed, typed_placed, arrived, typed_arrived}
 use Rattle.names_writer.proofs.MeasuredLaws.{length_column}
 use Rattle.names_writer.proofs.TableLaws.{columns_map, count_columns, length-columns}
 use Rattle.names_writer.proofs.ColumnPieceLaws.{pieces-joined, part_none, count_pieces}
@@ -81,7 +83,7 @@ lengths-map (column ∷ columns) =
 
 -- The columns stand one after the other.
 columns-stand : (names : List (List ℕ)) (front back : List ℕ) (cursors : List Cursor) (new : List ℕ)
-    → TypedArrived names front back (length names) cursors new → 0 < length names
+    → Placed names front back (length names) cursors new → 0 < length names
     → At new (length front) (flat_map column_bytes (columns_for names))
 unfolding column_start columns_end
 columns-stand names front back cursors new so some =
@@ -108,18 +110,16 @@ module _ (names : List (List ℕ)) (start : ℕ) (out : List ℕ)
   unfolding columns_end
   front_length = length-take-le start out (omega arith)
 
-  pub typed_arrived_start : (cursors : List Cursor) → length cursors ≡ token_count names
-      → ((k : ℕ) → k < token_count names → (cursor_at cursors k).last ≡ None)
+  placed_start : (cursors : List Cursor) → length cursors ≡ token_count names
       → ((k : ℕ) → k < token_count names → place_of cursors k ≡ column_start start names k)
-      → TypedArrived names (take start out) (drop (columns_end start names) out) 0 cursors out
-  unfolding column_part columns_end last_written
-  typed_arrived_start cursors counted first there =
+      → Placed names (take start out) (drop (columns_end start names) out) 0 cursors out
+  unfolding column_part columns_end
+  placed_start cursors counted there =
       let low = front_length in
       let none : (k : ℕ) → length (column_part names k 0) ≡ 0 =
       λ k. ap length (part_none (column_for (tokens_at names k))) in
       record {
         counted = counted;
-        last = first;
         place = λ k h.
             there k h
             ∙ ap (λ (b : ℕ). column_start b names k) (sym low)
@@ -138,13 +138,28 @@ module _ (names : List (List ℕ)) (start : ℕ) (out : List ℕ)
         sized = omega (arith, length-drop (columns_end start names) out);
       }
 
+  pub arrived_start : (cursors : List Cursor) → length cursors ≡ token_count names
+      → ((k : ℕ) → k < token_count names → (cursor_at cursors k).last ≡ None)
+      → ((k : ℕ) → k < token_count names → place_of cursors k ≡ column_start start names k)
+      → Arrived names (take start out) (drop (columns_end start names) out) 0 cursors out
+  unfolding last_number
+  arrived_start cursors counted first there = arrived (placed_start cursors counted there) first
+
+  pub typed_arrived_start : (cursors : List Cursor) → length cursors ≡ token_count names
+      → ((k : ℕ) → k < token_count names → (cursor_at cursors k).last ≡ None)
+      → ((k : ℕ) → k < token_count names → place_of cursors k ≡ column_start start names k)
+      → TypedArrived names (take start out) (drop (columns_end start names) out) 0 cursors out
+  unfolding last_written
+  typed_arrived_start cursors counted first there =
+      typed_arrived (placed_start cursors counted there) first
+
   -- ---- After the last row
 
-  pub typed_arrived_end : (cursors : List Cursor) (new : List ℕ)
-      → TypedArrived names (take start out) (drop (columns_end start names) out) (length names) cursors new
+  placed_end : (cursors : List Cursor) (new : List ℕ)
+      → Placed names (take start out) (drop (columns_end start names) out) (length names) cursors new
       → 0 < length names → new ≡ pasted out start (flat_map column_bytes (columns_for names))
   unfolding pasted
-  typed_arrived_end cursors new so some =
+  placed_end cursors new so some =
       let front : List ℕ = take start out in
       let back : List ℕ = drop (columns_end start names) out in
       let columns : List ℕ = flat_map column_bytes (columns_for names) in
@@ -168,6 +183,17 @@ module _ (names : List (List ℕ)) (start : ℕ) (out : List ℕ)
       ) in
       at_same new ((front ++ columns) ++ back) size (at_self new) whole
       ∙ ap (λ (n : ℕ). (front ++ columns) ++ drop n out) there
+
+  pub arrived_end : (cursors : List Cursor) (new : List ℕ)
+      → Arrived names (take start out) (drop (columns_end start names) out) (length names) cursors new
+      → 0 < length names → new ≡ pasted out start (flat_map column_bytes (columns_for names))
+  arrived_end cursors new so some = placed_end cursors new (placed so) some
+
+  pub typed_arrived_end : (cursors : List Cursor) (new : List ℕ)
+      → TypedArrived names (take start out) (drop (columns_end start names) out) (length names)
+      cursors new
+      → 0 < length names → new ≡ pasted out start (flat_map column_bytes (columns_for names))
+  typed_arrived_end cursors new so some = placed_end cursors new (typed_placed so) some
 
 -- ---- The starts of the columns, as they were written
 

@@ -13,14 +13,17 @@ use lib.Seq.{take-suc}
 use Rattle.base.specs.Lists.{any, steps_from}
 use Rattle.base.specs.Numbers.{le_bytes}
 use Rattle.base.proofs.ListLaws.{get_or-inside}
-use Rattle.base.proofs.Tests.{or-neither}
+use Rattle.base.proofs.Tests.{or-neither, any_none}
 use Rattle.tokens.specs.Columns.{Column, strings, rising, column_type, column_bytes}
 use Rattle.tokens.specs.WrittenNames.{not_number, value_of, steps_invalid, steps_of, width_for}
 use Rattle.tokens.specs.WrittenNames.{not_rising, column_for}
-use Rattle.names_writer.specs.Steps.{number_of}
-use Rattle.names_writer.specs.Pieces.{number_piece, typed_piece}
+use Rattle.names_writer.specs.Steps.{number_of, token_number}
+use Rattle.names_writer.specs.Measured.{last_number}
+use Rattle.names_writer.specs.Pieces.{number_piece, piece_of, typed_piece}
 use Rattle.names_writer.specs.Arrived.{pieces_of, part_bytes, last_written}
+use Rattle.names_writer.proofs.ValueLaws.{number_is}
 use Rattle.names_writer.proofs.KindLaws.{last-number}
+use Rattle.names_writer.proofs.PieceLaws.{piece_typed}
 use Rattle.names_writer.proofs.SectionLaws.{width_is, count-steps}
 
 -- ---- Parts of a column
@@ -117,12 +120,12 @@ module _ (tokens : List (List ℕ)) where
       ∙ ap (le_bytes width) (step-at numbers j (omega arith))
       ∙ mapped_at (le_bytes width) (steps_of numbers) j 0 (omega (arith, count-steps tokens))
 
-  piece_by : (test : Bool) → not_rising tokens ≡ test → (i : ℕ) → i < length tokens
+  typed_by : (test : Bool) → not_rising tokens ≡ test → (i : ℕ) → i < length tokens
       → typed_piece (last_written tokens i) (column_type (column_by test)) (get_or tokens i [])
       ≡ get_or (pieces_of (column_by test)) i []
   unfolding typed_piece column_type pieces_of not_rising
-  piece_by true is i inside = mapped_at (λ token. token ++ (0 ∷ [])) tokens i [] inside
-  piece_by false is i inside =
+  typed_by true is i inside = mapped_at (λ token. token ++ (0 ∷ [])) tokens i [] inside
+  typed_by false is i inside =
       let w = width_is (steps_of numbers) in
       let none = (or-neither (any not_number tokens) (steps_invalid (get_or numbers 0 0) numbers) is).0 in
       let token : List ℕ = get_or tokens i [] in
@@ -136,6 +139,37 @@ module _ (tokens : List (List ℕ)) where
   unfolding column_for
   typed_piece_at i kind last inside is before =
       ap₂ (λ (l : Option ℕ) (n : ℕ). typed_piece l n (get_or tokens i [])) before is
+      ∙ typed_by (not_rising tokens) refl i inside
+
+  -- In a rising column both last numbers agree.
+  last-same : any not_number tokens ≡ false → (i : ℕ) → i < length tokens
+      → last_number tokens i ≡ last_written tokens i
+  unfolding last_number last_written token_number
+  last-same none zero inside = refl
+  last-same none (suc j) inside =
+      let some = any_none not_number tokens none j [] (omega arith) in
+      rw (some, number_is (get_or tokens j []) some)
+
+  -- The same where a token that is no number is a string.
+  piece_by : (test : Bool) → not_rising tokens ≡ test → (i : ℕ) → i < length tokens
+      → piece_of (last_number tokens i) (column_type (column_by test)) (get_or tokens i [])
+      ≡ get_or (pieces_of (column_by test)) i []
+  unfolding piece_of column_type pieces_of not_rising
+  piece_by true is i inside = mapped_at (λ token. token ++ (0 ∷ [])) tokens i [] inside
+  piece_by false is i inside =
+      let none = (or-neither (any not_number tokens) (steps_invalid (get_or numbers 0 0) numbers) is).0 in
+      let kind : ℕ = column_type (column_by false) in
+      let token : List ℕ = get_or tokens i [] in
+      piece_typed (last_number tokens i) kind token (any_none not_number tokens none i [] inside)
+      ∙ ap (λ (l : Option ℕ). typed_piece l kind token) (last-same none i inside)
+      ∙ typed_by false is i inside
+
+  pub piece_at : (i kind : ℕ) (last : Option ℕ) → i < length tokens
+      → kind ≡ column_type (column_for tokens) → last ≡ last_number tokens i
+      → piece_of last kind (get_or tokens i []) ≡ get_or (pieces_of (column_for tokens)) i []
+  unfolding column_for
+  piece_at i kind last inside is before =
+      ap₂ (λ (l : Option ℕ) (n : ℕ). piece_of l n (get_or tokens i [])) before is
       ∙ piece_by (not_rising tokens) refl i inside
 
   -- A piece a token.

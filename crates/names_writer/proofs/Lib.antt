@@ -16,6 +16,7 @@ pub mod PieceLaws
 pub mod StandingLaws
 pub mod ColumnPieceLaws
 pub mod ColumnStartLaws
+pub mod PlacedLaws
 pub mod ArrivedLaws
 pub mod ArrivedEnds
 pub mod PutTableLaws

@@ -3,8 +3,9 @@ use mathlib.Core.Path.{◌≡◌, refl, sym, ap, ap₂, ◌∙◌}
 use Prim.Native.Nat.{ℕ, ◌+◌, ◌-◌, ◌%◌, ◌≤◌, ◌<◌}
 use native.Mathlib.Numerals.{add-one}
 use native.Mathlib.Omega.{arith}
-use mathlib.Core.Bool.{Bool, true, false, cond}
+use mathlib.Core.Bool.{Bool, true, false, cond, ◌||◌}
 use Rattle.std.proofs.Common.{Option, None, Some}
+use Rattle.base.proofs.ListLaws.{by_test}
 use mathlib.Core.List.{List, [], ◌∷◌, ◌++◌}
 use lib.ListN.{length, set, length-append}
 use lib.Dec.{eqb}
@@ -14,8 +15,10 @@ use Rattle.base.proofs.PasteLaws.{set_pasted, pasted_snoc}
 use Rattle.tokens.specs.Columns.{step_type}
 use Rattle.names_writer.specs.declared.steps.Kind.{Kind}
 use Rattle.names_writer.specs.declared.steps.Kind.TheVariants.{Strings, Steps16, Steps8, Steps32}
-use Rattle.names_writer.specs.Steps.{number_of, kind_byte, kind_width}
-use Rattle.names_writer.specs.Pieces.{number_piece, typed_piece, written}
+use Rattle.tokens.specs.WrittenNames.{not_number, value_of}
+use Rattle.names_writer.specs.Steps.{number_of, token_number, kind_byte, kind_width}
+use Rattle.names_writer.specs.Pieces.{number_piece, piece_of, typed_piece, written}
+use Rattle.names_writer.proofs.ValueLaws.{number_is, number_some, number_lacks}
 
 -- ---- A step
 
@@ -76,6 +79,31 @@ module _ (last : Option ℕ) (kind : ℕ) (token : List ℕ) where
       (number_piece last (kind_width kind) (number_of token))) other
       ∙ ap (number_piece last (kind_width kind)) (sym e)
 
+  pub piece_string : eqb kind 0 ≡ true → piece_of last kind token ≡ token ++ (0 ∷ [])
+  unfolding piece_of
+  piece_string e = rw e
+
+  pub piece_none : None ≡ token_number token → piece_of last kind token ≡ token ++ (0 ∷ [])
+  unfolding piece_of
+  piece_none e =
+      by_test (eqb kind 0) (λ yes. rw yes) (λ no. rw (no, number_lacks token e))
+
+  -- A token that is a number is written as the type says.
+  pub piece_typed : not_number token ≡ false
+      → piece_of last kind token ≡ typed_piece last kind token
+  unfolding piece_of typed_piece
+  piece_typed some =
+      ap (λ (n : ℕ). cond (eqb kind 0 || not_number token) (token ++ (0 ∷ []))
+      (number_piece last (kind_width kind) n)) (sym (number_is token some))
+      ∙ by_test (eqb kind 0) (λ yes. rw yes) (λ no. rw (no, some))
+
+  pub piece_number : (number : ℕ) → eqb kind 0 ≡ false → Some number ≡ token_number token
+      → piece_of last kind token ≡ number_piece last (kind_width kind) number
+  piece_number number other e =
+      let some = number_some token number e in
+      piece_typed some.digits
+      ∙ typed_number number other (some.is ∙ sym (number_is token some.digits))
+
 -- The type may be given by its byte.
 pub typed_kind : (last : Option ℕ) (kind byte : ℕ) (token : List ℕ) → eqb kind 0 ≡ eqb byte 0
     → kind_width kind ≡ kind_width byte → typed_piece last kind token ≡ typed_piece last byte token
@@ -83,6 +111,13 @@ unfolding typed_piece
 typed_kind last kind byte token e f =
     ap₂ (λ (s : Bool) (w : ℕ). cond s (token ++ (0 ∷ []))
     (number_piece last w (number_of token))) e f
+
+pub piece_kind : (last : Option ℕ) (kind byte : ℕ) (token : List ℕ) → eqb kind 0 ≡ eqb byte 0
+    → kind_width kind ≡ kind_width byte → piece_of last kind token ≡ piece_of last byte token
+unfolding piece_of
+piece_kind last kind byte token e f =
+    ap₂ (λ (s : Bool) (w : ℕ). cond (s || not_number token) (token ++ (0 ∷ []))
+    (number_piece last w (value_of token))) e f
 
 -- Bytes, then a zero byte.
 pub put-string : (out new token : List ℕ) (at end : ℕ) → at + length (token ++ (0 ∷ [])) ≤ length out

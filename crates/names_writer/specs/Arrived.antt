@@ -8,6 +8,7 @@ use Rattle.tokens.specs.Columns.{Column, strings, rising, column_bytes}
 use Rattle.tokens.specs.WrittenNames.{column_for, columns_for, token_count, tokens_at}
 use Rattle.names_writer.specs.declared.pieces.Cursor.{Cursor}
 use Rattle.names_writer.specs.Steps.{number_of}
+use Rattle.names_writer.specs.Measured.{last_number}
 use Rattle.names_writer.specs.Pieces.{cursor_at, place_of}
 
 -- The bytes of a column, token by token.
@@ -33,12 +34,26 @@ column_start base names k = base + total (take k (column_lengths names))
 unfoldable pub columns_end : (base : ℕ) (names : List (List ℕ)) → ℕ
 columns_end base names = base + total (column_lengths names)
 
+-- The buffer has `front`, the columns of the first i names, each from its start on, and `back`.
+pub record Arrived (names : List (List ℕ)) (front back : List ℕ) (i : ℕ)
+    (cursors : List Cursor) (out : List ℕ) : Type 0 where
+  pub counted : length cursors ≡ token_count names
+  pub last : (k : ℕ) → k < token_count names
+      → (cursor_at cursors k).last ≡ last_number (tokens_at names k) i
+  pub place : (k : ℕ) → k < token_count names
+      → place_of cursors k ≡ column_start (length front) names k + length (column_part names k i)
+  pub before : At out 0 front
+  pub column : (k : ℕ) → k < token_count names
+      → At out (column_start (length front) names k) (column_part names k i)
+  pub after : At out (columns_end (length front) names) back
+  pub sized : length out ≡ columns_end (length front) names + length back
+
 -- The number of the token before token i, if there is a token; `no_number` where it is none.
 unfoldable pub last_written : (tokens : List (List ℕ)) (i : ℕ) → Option ℕ
 last_written tokens zero = None
 last_written tokens (suc i) = Some (number_of (get_or tokens i []))
 
--- The buffer has `front`, the columns of the first i names, each from its start on, and `back`.
+-- The same where rows are written by the types alone.
 pub record TypedArrived (names : List (List ℕ)) (front back : List ℕ) (i : ℕ)
     (cursors : List Cursor) (out : List ℕ) : Type 0 where
   pub counted : length cursors ≡ token_count names

@@ -23,6 +23,8 @@ pub mod refused;
 pub mod rows;
 pub mod steps;
 pub mod table;
+#[cfg(test)]
+mod tests;
 pub mod tokeniser;
 pub mod writing;
 

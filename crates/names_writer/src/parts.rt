@@ -1,10 +1,11 @@
 // A part of some bytes that are cut at ends: a name of those that are lent, or a token of a name.
-// The ends of names are of 32 bits, those of tokens of 8, since a name has at most 255 bytes.
+// The ends of names are of 32 bits, those of tokens of 8, since a name has at most 255 bytes;
+// `put_row` takes those of tokens of 32 bits.
 ghost use Rattle.std.specs.Prelude.{◌≡◌};
 ghost use Rattle.base.specs.Lists.{part_ending};
 ghost use Rattle.names_writer.specs.Lent.{PartLies};
 
-// Name i: from the end of the one before it, or 0, to its own.
+// Part i: from the end of the one before it, or 0, to its own.
 pub fn part_at<'a>(bytes: &'a [u8], ends: &[u32], i: usize) -> &'a [u8]
     requires { PartLies bytes.now ends.now i }
     ensures { result.now ≡ part_ending bytes.now ends.now i }

@@ -3,19 +3,21 @@
 ghost use Rattle.std.specs.Prelude.{◌≡◌, [], ◌∷◌, ◌++◌, ◌+◌, ◌≤◌, length};
 ghost use Rattle.base.specs.Numbers.{le_bytes};
 ghost use Rattle.base.specs.Paste.{pasted};
-ghost use Rattle.names_writer.specs.Steps.{number_of, kind_byte, kind_width};
+ghost use Rattle.names_writer.specs.Steps.{number_of, token_number, kind_byte, kind_width};
 ghost use Rattle.names_writer.specs.Rows.{Marked};
-ghost use Rattle.names_writer.specs.Pieces.{number_piece, typed_piece, place_of, typed_row_piece, written};
-ghost use Rattle.names_writer.specs.Pieces.{PiecesFit, TypedRowMoved};
+ghost use Rattle.names_writer.specs.Pieces.{number_piece, piece_of, typed_piece, place_of};
+ghost use Rattle.names_writer.specs.Pieces.{row_piece, typed_row_piece, written};
+ghost use Rattle.names_writer.specs.Pieces.{PiecesFit, RowMoved, TypedRowMoved};
 
-use crate::parts::token_at;
+use crate::parts::{part_at, token_at};
 use crate::steps::{Kind, number_of};
 use integers::{put_u16, put_u32, put_u64};
 
 // Where a column that is written has arrived.
 #[derive(Clone, Copy)]
 pub struct Cursor {
-    // The number of the last token; none before the first.
+    // The number of the last token: none before the first, and none after `put_row` of a token that
+    // is no number.
     pub last: Option<u64>,
     pub place: usize,
 }
@@ -30,7 +32,54 @@ pub const START: Cursor = Cursor {
 // there is no such token; the value only gives `put_typed_row` an answer for every input.
 const NO_NUMBER: u64 = 1_000_000_000_000_000_000;
 
-// Writes one row, each token where its column has arrived, and moves the cursors on.
+// Writes one row, each token where its column has arrived, and moves the cursors on. A token that
+// is no number is a string, whatever its column. `put_columns` writes by `put_typed_row`, which
+// answers otherwise for such a token.
+pub fn put_row(name: &[u8], marks: &[u32], kinds: &[u8], cursors: &mut [Cursor], out: &mut [u8])
+    requires marked { Marked name.now marks.now (length cursors.old) }
+    requires kinds_room { length cursors.old ≤ length kinds.now }
+    requires pieces_fit { PiecesFit out.old (place_of cursors.old)
+        (row_piece name.now kinds.now cursors.old) (length cursors.old) }
+    ensures moved { RowMoved name.now kinds.now cursors.old cursors.new }
+    ensures written { out.new ≡ written out.old (place_of cursors.old)
+        (row_piece name.now kinds.now cursors.old) (length cursors.old) }
+{
+    for (k, cursor) in cursors.iter_mut().enumerate() {
+        let token = part_at(name, marks, k);
+        let kind = Kind::from(kinds[k]);
+        let number = number_of(token);
+        let place = put_piece(kind, cursor.last, token, number, out, cursor.place);
+        *cursor = Cursor {
+            last: number,
+            place,
+        };
+    }
+}
+
+// Writes what a token adds to its column, a string where it is no number; the answer is the place
+// after it.
+fn put_piece(
+    kind: Kind,
+    last: Option<u64>,
+    token: &[u8],
+    number: Option<u64>,
+    out: &mut [u8],
+    at: usize,
+) -> usize
+    requires number_value { number ≡ token_number token.now }
+    requires token_in_bounds { at + length (piece_of last (kind_byte kind) token.now)
+        ≤ length out.old }
+    ensures { (out.new ≡ pasted out.old at (piece_of last (kind_byte kind) token.now))
+        × (result ≡ at + length (piece_of last (kind_byte kind) token.now)) }
+{
+    let Some(number) = number else {
+        return put_string(token, out, at);
+    };
+    put_typed_piece(kind, last, token, number, out, at)
+}
+
+// Writes one row as `put_row` does, but by the types of the columns alone: in a column of steps a
+// token that is no number is `NO_NUMBER`. Its marks are of a byte each.
 pub fn put_typed_row(
     name: &[u8],
     marks: &[u8],
@@ -64,7 +113,7 @@ pub fn put_typed_row(
     }
 }
 
-// Writes what a token adds to its column; the answer is the place after it.
+// Writes what a token adds to its column by the type alone; the answer is the place after it.
 fn put_typed_piece(
     kind: Kind,
     last: Option<u64>,
