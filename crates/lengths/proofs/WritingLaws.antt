@@ -42,7 +42,7 @@ length-group ends from =
     (length-drop from (stored_of ends) ∙ ap (λ (n : ℕ). n - from) (length-stored_of ends))
 
 -- The ends of the reads from `from` on up to `to`, lent as a slice.
-module _ (ends : List ℕ) (from to : ℕ) (inside : to ≤ length ends) where
+module _ (ends : List ℕ) (from to : ℕ) (inside : to - from ≤ length ends - from) where
   pub length-lent : length (take (to - from) (drop from ends)) ≡ to - from
   length-lent = omega (arith, length-take (to - from) (drop from ends), length-drop from ends)
 

@@ -1,5 +1,5 @@
 use mathlib.Core.Path.{◌≡◌, ap}
-use Prim.Native.Nat.{ℕ, ◌+◌, ◌≤◌, ◌<◌}
+use Prim.Native.Nat.{ℕ, ◌+◌, ◌-◌, ◌≤◌, ◌<◌}
 use native.Mathlib.Omega.{arith}
 use lib.ListN.{length, drop}
 use Rattle.dna.proofs.SizeBytesLaws.{stored_total}
@@ -23,7 +23,8 @@ loop-end-preserved c =
     let l = c.loop-end in
     let a = c.args in
     let ends = a.ends.now in
-    let to : a.from + c.min-reads.result ≤ length ends = omega (arith, c.min-reads.ensures) in
+    let to : a.from + c.min-reads.result - a.from ≤ length ends - a.from =
+    omega (arith, c.min-reads.ensures) in
     let lent = length-lent ends a.from (a.from + c.min-reads.result) to in
     let inside : a.from + l.end-index < length ends = omega (arith, lent) in
     let there = lent_at ends a.from (a.from + c.min-reads.result) to l.end-index (omega arith) in
@@ -44,7 +45,8 @@ returns c =
     let l = c.loop-end in
     let a = c.args in
     let ends = a.ends.now in
-    let to : a.from + c.min-reads.result ≤ length ends = omega (arith, c.min-reads.ensures) in
+    let to : a.from + c.min-reads.result - a.from ≤ length ends - a.from =
+    omega (arith, c.min-reads.ensures) in
     let lent = length-lent ends a.from (a.from + c.min-reads.result) to in
     part_end ends a.from (a.from + l.end-index) l.sum (omega (arith, lent, c.min-reads.ensures))
     l.invariant.1
